@@ -1,0 +1,39 @@
+-- What contracts say: what a caller sees of a tree, of the whole world or of the part that it lends.
+use Prim.Native.Nat.{ℕ}
+use mathlib.Core.Path.{_≡_}
+use mathlib.Core.List.{List}
+use Rattle.sheet.specs.declared.State.{State}
+use Rattle.sheet.specs.declared.Bus.{Bus}
+use Rattle.sheet.specs.Act.{Act}
+use Rattle.sheet.specs.World.{World, world, withFile}
+use Rattle.sheet.specs.Handler.{Outcome, refused, done, run, nothing, tally}
+
+-- what a caller sees of an outcome: what the accesses come to, and not the accesses
+pub data Seen (A : Type 0) : Type 0 where
+  stops : ℕ → Seen A
+  ends : A → World → Bus → Seen A
+
+abbrev pub seen : {A : Type 0} → Outcome A → Seen A
+seen (refused n t) = stops n
+seen (done a w t) = ends a w (tally t)
+
+unfoldable pub exec : {A : Type 0} → Act A → World → Seen A
+exec p w = seen (run p w)
+
+-- a tree, begun in w, ends: it hands a on, leaves the world v, and its accesses come to n
+pub record Ends (A : Type 0) (p : Act A) (w : World) (a : A) (v : World) (n : Bus) : Type 0 where
+  pub is : exec p w ≡ ends a v n
+
+-- it refuses by the number n; its caller keeps the world that it had
+pub record Stops (A : Type 0) (p : Act A) (w : World) (n : ℕ) : Type 0 where
+  pub is : exec p w ≡ stops n
+
+-- code that is lent the registers
+pub record OnFile (A : Type 0) (p : Act A) (f : List ℕ) (a : A) (f′ : List ℕ) : Type 0 where
+  pub at : (s : State) (ram rom tape log : List ℕ)
+      → Ends A p (world (withFile s f) ram rom tape log) a (world (withFile s f′) ram rom tape log) nothing
+
+-- code that is lent the registers and the memory
+pub record OnMemory (A : Type 0) (p : Act A) (f ram rom : List ℕ) (a : A) (f′ ram′ : List ℕ) (n : Bus) : Type 0 where
+  pub at : (s : State) (tape log : List ℕ)
+      → Ends A p (world (withFile s f) ram rom tape log) a (world (withFile s f′) ram′ rom tape log) n

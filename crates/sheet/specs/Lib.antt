@@ -1,0 +1,10 @@
+pub mod Width
+pub mod Psw
+pub mod Registers
+pub mod Memory
+pub mod Log
+pub mod Act
+pub mod World
+pub mod Handler
+pub mod Contract
+pub mod Reading

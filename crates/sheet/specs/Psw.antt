@@ -1,0 +1,101 @@
+-- PSW as flags and as 16 bits, and what an instruction does to it: a column of Table 8-4.
+use mathlib.Core.Bool.{Bool, true, false, _&&_}
+use Prim.Native.Nat.{ℕ, _+_, _*_, _/_, _%_}
+use lib.Dec.{eqb}
+use mir.Val.{boolByte}
+use Rattle.sheet.specs.Width.{pick}
+
+-- OV is V: antt has that name for itself
+pub data Flag : Type 0 where
+  CY P AC Z S BRK IE DIR OV : Flag
+
+-- a flag's bit, as a power of two
+abbrev pub weight : Flag → ℕ
+weight CY = 1
+weight P = 4
+weight AC = 16
+weight Z = 64
+weight S = 128
+weight BRK = 256
+weight IE = 512
+weight DIR = 1024
+weight OV = 2048
+
+-- a flag as a digit
+abbrev pub bit : Bool → ℕ
+bit b = boolByte b
+
+-- whether the digit of x at the power of two d is 1
+abbrev pub at : ℕ → ℕ → Bool
+at x d = eqb (x / d % 2) 1
+
+abbrev pub flagOf : ℕ → Flag → Bool
+flagOf x f = at x (weight f)
+
+-- PSW with these flags: bits 1 and 12 to 15 are one, 3 and 5 zero
+abbrev pub pack : (Flag → Bool) → ℕ
+pack g =
+    61442 + bit (g CY) + 4 * bit (g P) + 16 * bit (g AC) + 64 * bit (g Z) + 128 * bit (g S) + 256 * bit (g BRK)
+    + 512 * bit (g IE) + 1024 * bit (g DIR) + 2048 * bit (g OV)
+
+-- the fixed bits are as they must be
+abbrev pub fixedOf : ℕ → Bool
+fixedOf x = eqb (x / 4096) 15 && (eqb (x / 2 % 2) 1 && (eqb (x / 8 % 2) 0 && eqb (x / 32 % 2) 0))
+
+-- what the sheet prints for one flag: nothing, U, or a value (0, 1, by the result, or R)
+pub data Effect : Type 0 where
+  blank unknown : Effect
+  becomes : Bool → Effect
+
+-- the sheet's six columns, in its order
+pub record Column : Type 0 where
+  pub ac : Effect
+  pub cy : Effect
+  pub v : Effect
+  pub p : Effect
+  pub s : Effect
+  pub z : Effect
+
+abbrev pub columns : (ac cy v p s z : Effect) → Column
+columns ac cy v p s z = record { ac = ac; cy = cy; v = v; p = p; s = s; z = z }
+
+-- a column leaves BRK, IE and DIR alone
+abbrev pub column : Column → Flag → Effect
+column c CY = c .cy
+column c P = c .p
+column c AC = c .ac
+column c Z = c .z
+column c S = c .s
+column c BRK = blank
+column c IE = blank
+column c DIR = blank
+column c OV = c .v
+
+-- one flag alone becomes b
+abbrev pub only : Flag → Bool → Flag → Effect
+only f b g = pick (eqb (weight f) (weight g)) (becomes b) blank
+
+-- IE and BRK become 0, as on entering a trap
+abbrev pub entering : Flag → Effect
+entering f = pick (eqb (weight IE) (weight f)) (becomes false) (only BRK false f)
+
+-- all nine come from a stored PSW
+abbrev pub restored : ℕ → Flag → Effect
+restored x f = becomes (flagOf x f)
+
+-- how unknown flags come out, by flag and old value
+abbrev pub Choice : Type 0
+Choice = Flag → Bool → Bool
+
+-- document 01's choice: a flag marked U keeps its old value
+abbrev pub keeps : Choice
+keeps f old = old
+
+abbrev pub settle : (Bool → Bool) → Effect → Bool → Bool
+settle u blank old = old
+settle u unknown old = u old
+settle u (becomes b) old = b
+
+-- PSW x after effects c, under the choice u
+unfoldable pub settled : Choice → (Flag → Effect) → ℕ → ℕ
+settled u c x = pack (λ f. settle (u f) (c f) (flagOf x f))
