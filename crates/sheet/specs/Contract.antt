@@ -4,8 +4,11 @@ use mathlib.Core.Path.{_≡_}
 use mathlib.Core.List.{List}
 use Rattle.sheet.specs.declared.State.{State}
 use Rattle.sheet.specs.declared.Bus.{Bus}
+use Rattle.sheet.specs.declared.Flagged.{Flagged}
+use Rattle.sheet.specs.Psw.{keeps, column, settled}
 use Rattle.sheet.specs.Act.{Act}
 use Rattle.sheet.specs.World.{World, world, withFile}
+use Rattle.sheet.specs.Arithmetic.{Result}
 use Rattle.sheet.specs.Handler.{Outcome, refused, done, run, nothing, tally}
 
 -- what a caller sees of an outcome: what the accesses come to, and not the accesses
@@ -37,3 +40,7 @@ pub record OnFile (A : Type 0) (p : Act A) (f : List ℕ) (a : A) (f′ : List �
 pub record OnMemory (A : Type 0) (p : Act A) (f ram rom : List ℕ) (a : A) (f′ ram′ : List ℕ) (n : Bus) : Type 0 where
   pub at : (s : State) (tape log : List ℕ)
       → Ends A p (world (withFile s f) ram rom tape log) a (world (withFile s f′) ram′ rom tape log) n
+
+-- a result, and the PSW that its column makes of an old one
+unfoldable pub flagged : Result → ℕ → Flagged
+flagged r psw = record { value = r .value; psw = settled keeps (column (r .column)) psw }

@@ -8,3 +8,12 @@ pub mod World
 pub mod Handler
 pub mod Contract
 pub mod Reading
+pub mod Operand
+pub mod Traps
+pub mod Arithmetic
+pub mod Multiply
+pub mod Shift
+pub mod Bits
+pub mod Decimal
+pub mod Convert
+pub mod Fields

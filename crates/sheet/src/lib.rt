@@ -336,13 +336,39 @@ pub enum Entry {
     Beyond,
 }
 
-// ---- what a division comes to, and a result with the PSW that it leaves
+// ---- what calculations come to
+
+// A product of 32 bits, of which byte operands use 16, and whether it exceeds its lower half.
+pub struct Product {
+    pub bits: u32,
+    pub exceeds: bool,
+}
 
 pub enum Divided {
     Quotient { quotient: u16, remainder: u16 },
     Trap,
 }
 
+// An operand that is shifted, with CY beside it.
+pub struct Turn {
+    pub value: u16,
+    pub cy: bool,
+}
+
+// A byte of two decimal digits with AC and CY.
+pub struct Digits {
+    pub value: u16,
+    pub ac: bool,
+    pub cy: bool,
+}
+
+// What goes from byte to byte of a decimal string: the carry, and whether all results so far are zero.
+pub struct Chain {
+    pub cy: bool,
+    pub zero: bool,
+}
+
+// A result, and the PSW that it leaves.
 pub struct Flagged {
     pub value: u16,
     pub psw: u16,

@@ -1,0 +1,37 @@
+-- CVTBD, CVTDB, CVTBW, CVTWL.
+use mathlib.Core.Bool.{Bool, true, false}
+use Prim.Native.Nat.{ℕ, _+_, _*_, _/_, _%_}
+use lib.Dec.{ltb}
+use Rattle.sheet.specs.Width.{pick, extend}
+use Rattle.sheet.specs.Psw.{unknown}
+use Rattle.sheet.specs.Registers.{AW, DW, AL, AH}
+use Rattle.sheet.specs.Act.{Act, _>>=_, _>>_, registers, _≔_, affect}
+use Rattle.sheet.specs.Operand.{regValue}
+use Rattle.sheet.specs.Arithmetic.{resulting}
+
+-- P, S and Z by AL
+unfoldable pub convert : ℕ → ℕ → Act Unit
+convert ah al = do
+  affect (resulting false al unknown unknown unknown .column)
+  AW ≔ ah * 256 + al
+
+unfoldable pub cvtbd : Act Unit
+cvtbd = do
+  x ← regValue false AL
+  convert (x / 10) (x % 10)
+
+unfoldable pub cvtdb : Act Unit
+cvtdb = do
+  x ← regValue false AL
+  y ← regValue false AH
+  convert 0 ((y * 10 + x) % 256)
+
+unfoldable pub cvtbw : Act Unit
+cvtbw = do
+  x ← regValue false AL
+  AW ≔ extend x
+
+unfoldable pub cvtwl : Act Unit
+cvtwl = do
+  r ← registers
+  DW ≔ pick (ltb (r AW) 32768) 0 65535

@@ -1,0 +1,119 @@
+-- Packed decimal: ADJ4A, ADJ4S, ADJBA, ADJBS, ADD4S, SUB4S, CMP4S, ROL4, ROR4.
+use mathlib.Core.Bool.{Bool, true, false, _&&_, _||_}
+use Prim.Native.Nat.{ℕ, _+_, _-_, _*_, _/_, _%_}
+use lib.Dec.{eqb, leb, ltb}
+use Rattle.sheet.specs.declared.Place.{Place}
+use Rattle.sheet.specs.declared.Digits.{Digits}
+use Rattle.sheet.specs.declared.Chain.{Chain}
+use Rattle.sheet.specs.Width.{pick, add16}
+use Rattle.sheet.specs.Psw.{AC, CY, bit, unknown, becomes, columns}
+use Rattle.sheet.specs.Registers.{AW, IX, IY, DS1, AL, CL, AH, File, segment, readReg}
+use Rattle.sheet.specs.Act.{Act, pure, _>>=_, _>>_, registers, _≔_, flag, affect, peek, poke, loop}
+use Rattle.sheet.specs.Operand.{locate, fetch, deposit, regValue, setReg}
+use Rattle.sheet.specs.Arithmetic.{resulting}
+
+-- ---- one byte
+
+-- x with k added or, for a subtraction, taken away, and whether a carry or a borrow came out
+unfoldable pub moved : Bool → ℕ → ℕ → ℕ
+moved true x k = (256 + x - k) % 256
+moved false x k = (x + k) % 256
+
+unfoldable pub comesOut : Bool → ℕ → ℕ → Bool
+comesOut true x k = ltb x k
+comesOut false x k = leb 256 (x + k)
+
+-- 6 where the low digit exceeds 9 or AC is 1, which sets AC; a carry out of it also sets CY. Then 60h where the byte exceeds 9Fh or CY is 1, which sets CY
+unfoldable pub adjusted : Bool → ℕ → Bool → Bool → Digits
+adjusted sub x ac cy =
+    let low : Bool = ltb 9 (x % 16) || ac in
+    let k : ℕ = pick low 6 0 in
+    let y : ℕ = moved sub x k in
+    let high : Bool = ltb 0x9f y || (cy || comesOut sub x k) in
+    record { value = moved sub y (pick high 0x60 0); ac = low; cy = high }
+
+-- a plus or minus b and the carry so far, with the half carry and the carry of that
+unfoldable pub plain : Bool → ℕ → ℕ → Bool → Digits
+plain true a b c =
+    record { value = (512 + a - (b + bit c)) % 256; ac = ltb (a % 16) (b % 16 + bit c); cy = ltb a (b + bit c) }
+plain false a b c =
+    record { value = (a + b + bit c) % 256; ac = leb 16 (a % 16 + b % 16 + bit c); cy = leb 256 (a + b + bit c) }
+
+-- one byte of ADD4S or of SUB4S
+unfoldable pub digits : Bool → ℕ → ℕ → Bool → Digits
+digits sub a b c =
+    let d : Digits = plain sub a b c in
+    adjusted sub (d .value) (d .ac) (d .cy)
+
+-- ---- ADJ4A and ADJ4S (sub)
+
+unfoldable pub adj4 : Bool → Act Unit
+adj4 sub = do
+  x ← regValue false AL
+  ac ← flag AC
+  cy ← flag CY
+  affect (resulting false (adjusted sub x ac cy .value) (becomes (adjusted sub x ac cy .ac)) (becomes (adjusted sub x ac cy .cy)) unknown .column)
+  setReg false AL (adjusted sub x ac cy .value)
+
+-- ---- ADJBA and ADJBS (sub)
+
+-- AH and AL once a digit is adjusted: no carry goes from AL to AH
+unfoldable pub unpacked : Bool → Bool → ℕ → ℕ
+unpacked sub low aw =
+    moved sub (aw / 256) (bit low) * 256 + moved sub (aw % 256) (pick low 6 0) % 16
+
+unfoldable pub adjb : Bool → Act Unit
+adjb sub = do
+  r ← registers
+  ac ← flag AC
+  let low : Bool = ltb 9 (r AW % 16) || ac
+  affect (columns (becomes low) (becomes low) unknown unknown unknown unknown)
+  AW ≔ unpacked sub low (r AW)
+
+-- ---- strings
+
+abbrev pub chainOf : Chain → Digits → Chain
+chainOf c d = record { cy = d .cy; zero = c .zero && eqb (d .value) 0 }
+
+-- byte i of the strings at DS1:IY and at the source segment's IX; CMP4S stores nothing
+unfoldable pub link : Bool → Bool → ℕ → ℕ → Chain → Act Chain
+link sub stores seg i c = do
+  r ← registers
+  a ← peek false (r DS1) (add16 (r IY) i)
+  b ← peek false (r (segment seg)) (add16 (r IX) i)
+  pick stores (poke false (r DS1) (add16 (r IY) i) (digits sub a b (c .cy) .value)) (pure tt)
+  pure (chainOf c (digits sub a b (c .cy)))
+
+-- (CL + 1) div 2 bytes, lowest address first
+unfoldable pub string : Bool → Bool → ℕ → Act Unit
+string sub stores seg = do
+  n ← regValue false CL
+  c ← loop (link sub stores seg) ((n + 1) / 2) 0 (record { cy = false; zero = true })
+  affect (columns unknown (becomes (c .cy)) unknown unknown unknown (becomes (c .zero)))
+
+abbrev pub add4s : ℕ → Act Unit
+add4s seg = string false true seg
+
+abbrev pub sub4s : ℕ → Act Unit
+sub4s seg = string true true seg
+
+abbrev pub cmp4s : ℕ → Act Unit
+cmp4s seg = string true false seg
+
+-- ---- ROL4 and ROR4: a digit goes round through the low digit of AL, whose high digit is kept
+
+unfoldable pub rol4 : Place → Act Unit
+rol4 dst = do
+  al ← regValue false AL
+  s ← locate dst
+  x ← fetch false s
+  deposit false s (x % 16 * 16 + al % 16)
+  setReg false AL (al / 16 * 16 + x / 16)
+
+unfoldable pub ror4 : Place → Act Unit
+ror4 dst = do
+  al ← regValue false AL
+  s ← locate dst
+  x ← fetch false s
+  deposit false s (al % 16 * 16 + x / 16)
+  setReg false AL (al / 16 * 16 + x % 16)
