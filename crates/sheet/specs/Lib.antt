@@ -17,3 +17,16 @@ pub mod Bits
 pub mod Decimal
 pub mod Convert
 pub mod Fields
+pub mod Transfer
+pub mod Stack
+pub mod Branch
+pub mod Interrupts
+pub mod Block
+pub mod Ports
+pub mod Control
+pub mod Execute
+pub mod Encoding
+pub mod SecondByte
+pub mod FirstByte
+pub mod Step
+pub mod Run

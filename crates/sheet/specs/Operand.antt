@@ -16,6 +16,7 @@ use Rattle.sheet.specs.declared.Spot.{Spot}
 use Rattle.sheet.specs.declared.Spot.the-variants.{InRegister, InMemory}
 use Rattle.sheet.specs.declared.Amount.{Amount}
 use Rattle.sheet.specs.declared.Amount.the-variants.{InCl, Given}
+use Rattle.sheet.specs.Width.{add16}
 use Rattle.sheet.specs.Registers.{BW, BP, IX, IY, CL, File, segment, inSs, inDs0, readReg, regIndex, regWord}
 use Rattle.sheet.specs.Act.{Act, pure, _>>=_, _>>_, registers, _≔_, peek, poke}
 
@@ -100,7 +101,7 @@ unfoldable pub pairAt : Address → Act (ℕ × ℕ)
 pairAt a = do
   r ← registers
   low ← peek true (baseOf r a) (offsetOf r a)
-  high ← peek true (baseOf r a) ((offsetOf r a + 2) % 65536)
+  high ← peek true (baseOf r a) (add16 (offsetOf r a) 2)
   pure (low, high)
 
 unfoldable pub amountOf : Amount → Act ℕ

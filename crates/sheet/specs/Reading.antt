@@ -54,3 +54,7 @@ unfoldable pub signedByte : Reading ℕ
 signedByte = do
   b ← byte
   got (extend b)
+
+-- where a test fails, the bytes name no instruction
+unfoldable pub allow : Bool → Reading Unit
+allow b = pick b (got tt) (no 3)

@@ -1,0 +1,19 @@
+-- HALT, NOP, DI, EI, and CLR1, SET1, NOT1 of CY and DIR.
+use mathlib.Core.Bool.{true, false, not}
+use Rattle.sheet.specs.declared.Control.{Control}
+use Rattle.sheet.specs.declared.Control.the-variants.{Nop, Halt, Di, Ei, ClrCy, SetCy, NotCy, ClrDir, SetDir}
+use Rattle.sheet.specs.Psw.{CY, IE, DIR}
+use Rattle.sheet.specs.Act.{Act, pure, _>>=_, _>>_, flag, setFlag, halted}
+
+unfoldable pub control : Control → Act Unit
+control Nop = pure tt
+control Halt = halted true
+control Di = setFlag IE false
+control Ei = setFlag IE true
+control ClrCy = setFlag CY false
+control SetCy = setFlag CY true
+control NotCy = do
+  c ← flag CY
+  setFlag CY (not c)
+control ClrDir = setFlag DIR false
+control SetDir = setFlag DIR true

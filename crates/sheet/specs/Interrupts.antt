@@ -1,0 +1,54 @@
+-- BRK, BRKV, RETI, CHKIND. Each hands on whether it took a trap.
+use Prim.Native.Nat.{ℕ}
+use mathlib.Core.Bool.{Bool, true, false, _||_}
+use lib.Signed.{ltZ}
+use Rattle.sheet.specs.declared.Address.{Address}
+use Rattle.sheet.specs.declared.Interrupt.{Interrupt}
+use Rattle.sheet.specs.declared.Interrupt.the-variants.{Brk3, Brk, Brkv, Reti, Chkind}
+use Rattle.sheet.specs.Width.{pick, signedOf}
+use Rattle.sheet.specs.Psw.{OV}
+use Rattle.sheet.specs.Registers.{PS, PC}
+use Rattle.sheet.specs.Act.{Act, pure, _>>=_, _>>_, _≔_, flag, restore}
+use Rattle.sheet.specs.Operand.{regValue, pairAt}
+use Rattle.sheet.specs.Traps.{pop, trap}
+
+unfoldable pub brk : ℕ → Act Bool
+brk v = do
+  trap v
+  pure true
+
+unfoldable pub trapIf : Bool → ℕ → Act Bool
+trapIf b v = pick b (brk v) (pure false)
+
+unfoldable pub brkv : Act Bool
+brkv = do
+  b ← flag OV
+  trapIf b 4
+
+unfoldable pub reti : Act Unit
+reti = do
+  pc ← pop
+  ps ← pop
+  x ← pop
+  PC ≔ pc
+  PS ≔ ps
+  restore x
+
+-- the bounds are compared as signed numbers
+unfoldable pub outside : (v low high : ℕ) → Bool
+outside v low high = ltZ (signedOf 32768 v) (signedOf 32768 low) || ltZ (signedOf 32768 high) (signedOf 32768 v)
+
+unfoldable pub chkind : ℕ → Address → Act Bool
+chkind reg from = do
+  p ← pairAt from
+  v ← regValue true reg
+  trapIf (outside v (p .0) (p .1)) 5
+
+unfoldable pub interrupts : Interrupt → Act Bool
+interrupts Brk3 = brk 3
+interrupts (Brk v) = brk v
+interrupts Brkv = brkv
+interrupts Reti = do
+  reti
+  pure false
+interrupts (Chkind reg from) = chkind reg from

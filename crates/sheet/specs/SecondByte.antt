@@ -1,0 +1,78 @@
+-- The codes after 0F: bits, decimal strings and digits, bit fields.
+use Prim.Native.Nat.{ℕ, _+_, _/_, _%_}
+use mathlib.Core.Bool.{Bool, _&&_}
+use mathlib.Core.List.{List, [], _∷_, _++_}
+use lib.Dec.{eqb}
+use Rattle.sheet.specs.declared.Place.{Place}
+use Rattle.sheet.specs.declared.Amount.{Amount}
+use Rattle.sheet.specs.declared.Amount.the-variants.{InCl, Given}
+use Rattle.sheet.specs.declared.Length.{Length}
+use Rattle.sheet.specs.declared.Length.the-variants as length
+use Rattle.sheet.specs.declared.Bit.{Bit}
+use Rattle.sheet.specs.declared.Bit.the-variants.{Test1, Clr1, Set1, Not1}
+use Rattle.sheet.specs.declared.Decimal.the-variants.{Add4s, Sub4s, Cmp4s, Rol4, Ror4}
+use Rattle.sheet.specs.declared.Field.the-variants.{Ins, Ext}
+use Rattle.sheet.specs.declared.Instr.{Instr}
+use Rattle.sheet.specs.declared.Instr.the-variants.{Bits, Decimals, Fields}
+use Rattle.sheet.specs.Registers.{inDs0}
+use Rattle.sheet.specs.Reading.{Reading, got, _>>=_, _>>_, byte, allow}
+use Rattle.sheet.specs.Encoding.{Prefixes, segOr, modField, regField, memField, place, Row, row, W}
+
+-- a byte whose reg field must be 0
+unfoldable pub plainPlace : Prefixes → Reading Place
+plainPlace p = do
+  m ← byte
+  allow (eqb (regField m) 0)
+  place p m
+
+unfoldable pub bitInCl : Prefixes → Bit → ℕ → Reading Instr
+bitInCl p op n = do
+  to ← plainPlace p
+  got (Bits op (W n) to InCl)
+
+unfoldable pub bitGiven : Prefixes → Bit → ℕ → Reading Instr
+bitGiven p op n = do
+  to ← plainPlace p
+  number ← byte
+  got (Bits op (W n) to (Given number))
+
+-- 11 reg' reg: the offset's register in the low field, the length's in the other
+unfoldable pub fieldInRegister : (ℕ → Length → Reading Instr) → Reading Instr
+fieldInRegister k = do
+  m ← byte
+  allow (eqb (modField m) 3)
+  k (memField m) (length.InRegister (regField m))
+
+-- 11 000 reg and a byte
+unfoldable pub fieldGiven : (ℕ → Length → Reading Instr) → Reading Instr
+fieldGiven k = do
+  m ← byte
+  allow (eqb (modField m) 3 && eqb (regField m) 0)
+  n ← byte
+  k (memField m) (length.Given n)
+
+unfoldable pub digit : (Place → Instr) → Prefixes → Reading Instr
+digit k p = do
+  to ← plainPlace p
+  got (k to)
+
+abbrev pub secondBytes : Prefixes → List Row
+secondBytes p =
+    row 0x10 2 (bitInCl p Test1)
+    ∷ row 0x12 2 (bitInCl p Clr1)
+    ∷ row 0x14 2 (bitInCl p Set1)
+    ∷ row 0x16 2 (bitInCl p Not1)
+    ∷ row 0x18 2 (bitGiven p Test1)
+    ∷ row 0x1a 2 (bitGiven p Clr1)
+    ∷ row 0x1c 2 (bitGiven p Set1)
+    ∷ row 0x1e 2 (bitGiven p Not1)
+    ∷ row 0x20 1 (λ n. got (Decimals (Add4s (segOr (p .seg) inDs0))))
+    ∷ row 0x22 1 (λ n. got (Decimals (Sub4s (segOr (p .seg) inDs0))))
+    ∷ row 0x26 1 (λ n. got (Decimals (Cmp4s (segOr (p .seg) inDs0))))
+    ∷ row 0x28 1 (λ n. digit (λ to. Decimals (Rol4 to)) p)
+    ∷ row 0x2a 1 (λ n. digit (λ to. Decimals (Ror4 to)) p)
+    ∷ row 0x31 1 (λ n. fieldInRegister (λ o l. got (Fields (Ins o l))))
+    ∷ row 0x33 1 (λ n. fieldInRegister (λ o l. got (Fields (Ext (segOr (p .seg) inDs0) o l))))
+    ∷ row 0x39 1 (λ n. fieldGiven (λ o l. got (Fields (Ins o l))))
+    ∷ row 0x3b 1 (λ n. fieldGiven (λ o l. got (Fields (Ext (segOr (p .seg) inDs0) o l))))
+    ∷ []

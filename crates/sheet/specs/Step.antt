@@ -1,0 +1,108 @@
+-- One step, an interrupt call, and reset; what each call reports.
+use Prim.Native.Nat.{ℕ, _+_}
+use mathlib.Core.Bool.{Bool, true, false, not, _&&_}
+use mathlib.Core.List.{List, []}
+use lib.ListN.{length, getD, replicate, set}
+use lib.Dec.{leb}
+use Rattle.sheet.specs.declared.State.{State}
+use Rattle.sheet.specs.declared.Bus.{Bus}
+use Rattle.sheet.specs.declared.Instr.{Instr}
+use Rattle.sheet.specs.Width.{pick, add16}
+use Rattle.sheet.specs.Psw.{BRK, IE, Choice, flagOf, fixedOf}
+use Rattle.sheet.specs.Registers.{PS, PC, PSW, fileOf}
+use Rattle.sheet.specs.Memory.{physical, byteAt}
+use Rattle.sheet.specs.Log.{rule, risen}
+use Rattle.sheet.specs.World.{World, withState, pswOf, withCount}
+use Rattle.sheet.specs.Act.{Act, pure, _>>=_, _>>_, flag, halted}
+use Rattle.sheet.specs.Handler.{Outcome, refused, done, runBy, kept, nothing, tally}
+use Rattle.sheet.specs.Reading.{Read, known, unknown, scan}
+use Rattle.sheet.specs.FirstByte.{instruction}
+use Rattle.sheet.specs.Traps.{trap}
+use Rattle.sheet.specs.Execute.{execute}
+
+-- ---- what is checked first
+
+-- number 1 is given where this fails
+unfoldable pub fits : World → Bool
+fits w = leb (length (w .ram) + length (w .rom)) 1048576
+
+-- number 2 is given where this fails: fixed bits of PSW, places, count
+unfoldable pub sound : World → Bool
+sound w =
+    fixedOf (pswOf (w .state))
+    && (leb (w .state .tape) (length (w .tape)) && (leb (w .state .log) (length (w .log)) && leb (w .state .count) (rule .ceiling)))
+
+-- the first of two refusals that is due, or what comes then
+abbrev pub checked : {A : Type 0} → World → (ℕ → A) → A → A
+checked w refuses go = pick (fits w) (pick (sound w) go (refuses 2)) (refuses 1)
+
+abbrev pub refusal : {A : Type 0} → ℕ → Outcome A
+refusal n = refused n []
+
+-- ---- a step
+
+-- the address of the jth byte of the instruction at PS:PC, and that byte
+abbrev pub codeAt : State → ℕ → ℕ
+codeAt s j = physical (fileOf (s .file) PS) (add16 (fileOf (s .file) PC) j)
+
+abbrev pub source : World → ℕ → ℕ
+source w j = byteAt (w .ram) (w .rom) (codeAt (w .state) j)
+
+-- the trap to vector 1 if BRK was 1 before and no other trap was taken; it ends a halt
+unfoldable pub singleStep : Bool → Act Unit
+singleStep false = pure tt
+singleStep true = do
+  trap 1
+  halted false
+
+unfoldable pub stepping : Instr → ℕ → Act Unit
+stepping i n = do
+  traced ← flag BRK
+  trapped ← execute i n
+  singleStep (traced && not trapped)
+
+-- the count rises with the step, so that a record finds its gap there
+unfoldable pub counted : World → World
+counted w = withState w (withCount (w .state) (risen rule (w .state .count)))
+
+unfoldable pub decoded : (ℕ → Choice) → Read Instr → World → Outcome Unit
+decoded u (known i n) w = runBy u (stepping i n) (counted w)
+decoded u (unknown r n) w = refusal r
+
+unfoldable pub awake : (ℕ → Choice) → World → Outcome Unit
+awake u w = pick (w .state .halted) (refusal 8) (decoded u (scan instruction (source w) 0) w)
+
+unfoldable pub stepBy : (ℕ → Choice) → World → Outcome Unit
+stepBy u w = checked w refusal (awake u w)
+
+-- the machine of document 01
+unfoldable pub step : World → Outcome Unit
+step w = stepBy kept w
+
+-- ---- an interrupt call
+
+unfoldable pub interrupting : ℕ → Act Unit
+interrupting v = do
+  trap v
+  halted false
+
+unfoldable pub interruptBy : (ℕ → Choice) → ℕ → Bool → World → Outcome Unit
+interruptBy u v maskable w =
+    checked w refusal (pick (maskable && not (flagOf (pswOf (w .state)) IE)) (refusal 7) (runBy u (interrupting v) w))
+
+unfoldable pub interrupt : ℕ → Bool → World → Outcome Unit
+interrupt v maskable w = interruptBy kept v maskable w
+
+-- ---- reset
+
+unfoldable pub reset : State
+reset = record { file = set (set (replicate 14 0) PS 0xffff) PSW 0xf002; halted = false; tape = 0; log = 0; count = 0 }
+
+-- ---- what a call reports: number, world and bus; a refusal leaves the world as it was
+
+pub data Report : Type 0 where
+  report : ℕ → World → Bus → Report
+
+abbrev pub reportOf : World → Outcome Unit → Report
+reportOf w (refused n t) = report n w nothing
+reportOf w (done a v t) = report 0 v (tally t)
