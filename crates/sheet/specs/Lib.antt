@@ -30,3 +30,4 @@ pub mod SecondByte
 pub mod FirstByte
 pub mod Step
 pub mod Run
+pub mod Reach

@@ -1,0 +1,41 @@
+-- What was read and what was written, by address.
+use Prim.Native.Nat.{ℕ}
+use mathlib.Core.Bool.{Bool, true, false}
+use mathlib.Core.List.{List, [], _∷_}
+use mathlib.Core.Logic.{_≢_}
+use Rattle.sheet.specs.Memory.{physical, next}
+use Rattle.sheet.specs.Handler.{Event, reads, writes, takes, gives, asks, copies, changes}
+
+-- the addresses of an access
+abbrev pub Covers : (ℕ → Type 0) → Bool → ℕ → ℕ → Type 0
+Covers P false g o = P (physical g o)
+Covers P true g o = P (physical g o) × P (physical g (next o))
+
+-- what was read lies in P
+abbrev pub Sees : (ℕ → Type 0) → Event → Type 0
+Sees P (reads b g o) = Covers P b g o
+Sees P (writes b g o v) = Unit
+Sees P (takes b n v) = Unit
+Sees P (gives b n v) = Unit
+Sees P (asks f) = Unit
+Sees P (copies b) = Unit
+Sees P (changes c) = Unit
+
+abbrev pub Within : (ℕ → Type 0) → List Event → Type 0
+Within P [] = Unit {0}
+Within P (e ∷ t) = Sees P e × Within P t
+
+-- a is no address that an access writes
+abbrev pub Misses : ℕ → Event → Type 0
+Misses a (reads b g o) = Unit
+Misses a (writes false g o v) = a ≢ physical g o
+Misses a (writes true g o v) = (a ≢ physical g o) × (a ≢ physical g (next o))
+Misses a (takes b n v) = Unit
+Misses a (gives b n v) = Unit
+Misses a (asks f) = Unit
+Misses a (copies b) = Unit
+Misses a (changes c) = Unit
+
+abbrev pub Spares : ℕ → List Event → Type 0
+Spares a [] = Unit {0}
+Spares a (e ∷ t) = Misses a e × Spares a t
