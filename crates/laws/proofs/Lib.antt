@@ -1,0 +1,4 @@
+pub mod Bytes
+pub mod Parts
+pub mod Writing
+pub mod Table
