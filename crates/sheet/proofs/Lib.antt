@@ -4,3 +4,6 @@ pub mod PswLaws
 pub mod ReadingLaws
 pub mod Lent
 pub mod Rests
+pub mod Loop
+pub mod TableLaws
+pub mod SmallTable

@@ -15,7 +15,7 @@ use Rattle.sheet.specs.Width.{pick, bytesOf}
 use Rattle.sheet.specs.Psw.{Flag, Effect, Choice, flagOf, settled}
 use Rattle.sheet.specs.Registers.{fileOf, written}
 use Rattle.sheet.specs.Memory.{physical, next, byteAt, readMem, writeMem}
-use Rattle.sheet.specs.Log.{rule, keyOf, recordBytes, over, writeLog}
+use Rattle.sheet.specs.Log.{rule, keyOf, recordBytes, writeLog}
 use Rattle.sheet.specs.World.{World, world, withState, withRam, pswOf, withFile, withPsw, withHalted, recorded}
 use Rattle.sheet.specs.Act.{Act, pure, refuse, get, put, ask, copy, flags, load, store, input, output, halt}
 use Rattle.sheet.specs.Handler.{Access, short, through, recording, taped, inputs, outputs, Event, reads, writes, takes, gives, asks, copies, changes, Outcome, refused, done, then, ported, copied, runBy, happened}
@@ -83,13 +83,13 @@ log-old : (l b : List ℕ) (at i : ℕ) → at ≤ length l → i < at → getD 
 unfolding writeLog
 log-old l b at i h k =
     let n = length-take-le at l h in
-    List·getD-append (take at l) (over b (drop at l)) 0 i (omega arith) ∙ getD-take at l i 0 k
+    List·getD-append (take at l) (b ++ drop (at + length b) l) 0 i (omega arith) ∙ getD-take at l i 0 k
 
 log-new : (l b : List ℕ) (at j : ℕ) → at ≤ length l → j < length b → getD (writeLog l at b) (at + j) 0 ≡ getD b j 0
 unfolding writeLog
 log-new l b at j h k =
-    subst (λ (n : ℕ). getD (take at l ++ over b (drop at l)) (n + j) 0 ≡ getD b j 0) (length-take-le at l h)
-    (getD-append-add (take at l) (over b (drop at l)) j 0 ∙ List·getD-append b (drop (length b) (drop at l)) 0 j k)
+    subst (λ (n : ℕ). getD (take at l ++ (b ++ drop (at + length b) l)) (n + j) 0 ≡ getD b j 0) (length-take-le at l h)
+    (getD-append-add (take at l) (b ++ drop (at + length b) l) j 0 ∙ List·getD-append b (drop (at + length b) l) 0 j k)
 
 log-alike : (l l′ b : List ℕ) (at i : ℕ) → at ≤ length l → at ≤ length l′ → (i < at → getD l i 0 ≡ getD l′ i 0) → i < at + length b → getD (writeLog l at b) i 0 ≡ getD (writeLog l′ at b) i 0
 log-alike l l′ b at i h h′ e k = go (ltb i at) refl
