@@ -7,3 +7,6 @@ pub mod Rests
 pub mod Loop
 pub mod TableLaws
 pub mod SmallTable
+pub mod Forms
+pub mod StepLaws
+pub mod BlockLaws
