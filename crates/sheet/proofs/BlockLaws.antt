@@ -10,6 +10,7 @@ use native.Mathlib.Omega.{arith}
 use lib.ListN.{length, getD}
 use Rattle.sheet.specs.declared.Primitive.{Primitive}
 use Rattle.sheet.specs.declared.Primitive.the-variants.{Movbk, Cmpbk, Cmpm, Ldm, Stm, Inm, Outm}
+use Rattle.sheet.specs.declared.Prefixes.{Prefixes}
 use Rattle.sheet.specs.declared.Instr.{Instr}
 use Rattle.sheet.specs.declared.Instr.the-variants.{Blocks}
 use Rattle.sheet.specs.Width.{pick}
@@ -19,7 +20,7 @@ use Rattle.sheet.specs.World.{World}
 use Rattle.sheet.specs.Handler.{runBy}
 use Rattle.sheet.specs.Reading as reading
 use Rattle.sheet.specs.Reading.{Reading, got, no, known, scan}
-use Rattle.sheet.specs.Encoding.{Prefix, Prefixes, unprefixed, withPrefix, prefixOf, segOr, lookUp}
+use Rattle.sheet.specs.Encoding.{Prefix, unprefixed, withPrefix, prefixOf, segOr, lookUp}
 use Rattle.sheet.specs.FirstByte.{firstBytes, afterPrefix, prefixed, instruction}
 use Rattle.sheet.specs.Step.{fits, sound, source, stepping, counted, decoded, awake, stepBy}
 

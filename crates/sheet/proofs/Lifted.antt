@@ -1,37 +1,94 @@
 -- The rules for code that is lent only a part of the world.
-use Prim.Native.Nat.{ℕ}
+use Prim.Native.Nat.{ℕ, _+_, _≤_}
 use mathlib.Core.Path.{_≡_}
-use mathlib.Core.Bool.{Bool}
+use mathlib.Core.Bool.{Bool, true, false}
 use mathlib.Core.List.{List}
+use native.Mathlib.Nat.{add-le-add, add-zero}
+use native.Mathlib.Omega.{arith}
+use lib.Dec.{lit≤}
+use lib.ListN.{set}
 use Rattle.sheet.specs.declared.Bus.{Bus}
-use Rattle.sheet.specs.Memory.{readMem, writeMem}
-use Rattle.sheet.specs.Act.{Act, _>>=_, peek, poke}
-use Rattle.sheet.specs.Handler.{nothing, _⊕_, busOf}
+use Rattle.sheet.specs.Width.{pick}
+use Rattle.sheet.specs.Psw.{Flag, Effect, keeps, flagOf, settled}
+use Rattle.sheet.specs.Registers.{PSW, File, fileOf, written}
+use Rattle.sheet.specs.Memory.{readMem, writeMem, busCycles}
+use Rattle.sheet.specs.World.{pswOf}
+use Rattle.sheet.specs.Act.{Act, pure, flags, _>>=_, registers, _≔_, flag, psw, peek, poke}
+use Rattle.sheet.specs.Handler.{nothing, _⊕_, busOf, copied}
 use Rattle.sheet.specs.Contract.{OnFile, OnMemory}
-use Rattle.sheet.proofs.Rules.{seq, seq-free, seq-last, ends-peek, ends-poke}
+use lib.ListN.{getD}
+use Rattle.sheet.proofs.Rules.{seq, seq-free, seq-last, ends-pure, ends-registers, ends-set, ends-flag, ends-psw, ends-flags, ends-peek, ends-poke}
 
--- code that is lent the registers, among code that is lent the memory too
-pub on-memory : {A : Type 0} {p : Act A} {f f′ : List ℕ} {a : A} (ram rom : List ℕ) → OnFile A p f a f′ → OnMemory A p f ram rom a f′ ram nothing
-on-memory ram rom h = record { at = λ s tape log. h .at s ram rom tape log }
+-- ---- code that is lent the registers
+
+pub file-pure : {A : Type 0} {a : A} {f : List ℕ} → OnFile A (pure a) f a f
+file-pure = record { at = λ s ram rom tape log. ends-pure }
+
+pub file-registers : {f : List ℕ} → OnFile File registers f (fileOf f) f
+file-registers = record { at = λ s ram rom tape log. ends-registers }
+
+pub file-set : (n v : ℕ) {f : List ℕ} → OnFile Unit (n ≔ v) f tt (written f n v)
+file-set n v = record { at = λ s ram rom tape log. ends-set n v }
+
+pub file-flag : (q : Flag) {f : List ℕ} → OnFile Bool (flag q) f (flagOf (getD f PSW 0) q) f
+file-flag q = record { at = λ s ram rom tape log. ends-flag q }
+
+pub file-psw : (b : Bool) {f : List ℕ} → OnFile ℕ (psw b) f (copied b (getD f PSW 0)) f
+file-psw b = record { at = λ s ram rom tape log. ends-psw b }
+
+pub file-flags : (c : Flag → Effect) {f : List ℕ} {x : ℕ} → x ≡ settled keeps c (getD f PSW 0) → OnFile Unit (flags c (pure tt)) f tt (set f PSW x)
+file-flags c e = record { at = λ s ram rom tape log. ends-flags c e }
+
+-- ---- sequences
 
 module _ {A B : Type 0} {p : Act A} (k : A → Act B) {f g h : List ℕ} {a : A} {b : B} where
   pub file-seq : OnFile A p f a g → OnFile B (k a) g b h → OnFile B (p >>= k) f b h
   file-seq x y = record { at = λ s ram rom tape log. seq-free k (x .at s ram rom tape log) (y .at s ram rom tape log) }
 
-  pub memory-seq : {ram rom ram′ ram″ : List ℕ} {n m : Bus} → OnMemory A p f ram rom a g ram′ n → OnMemory B (k a) g ram′ rom b h ram″ m
-      → OnMemory B (p >>= k) f ram rom b h ram″ (n ⊕ m)
-  memory-seq x y = record { at = λ s tape log. seq k (x .at s tape log) (y .at s tape log) }
+  pub memory-seq : {ram rom ram′ ram″ : List ℕ} {n m : Bus} {t u : ℕ} → OnMemory A p f ram rom a g ram′ n t → OnMemory B (k a) g ram′ rom b h ram″ m u
+      → OnMemory B (p >>= k) f ram rom b h ram″ (n ⊕ m) (t + u)
+  memory-seq x y = record { most = add-le-add (x .most) (y .most); at = λ s tape log. seq k (x .at s tape log) (y .at s tape log) }
 
   -- the same where the first, or the rest, makes no access
-  pub memory-free : {ram rom ram′ : List ℕ} {m : Bus} → OnFile A p f a g → OnMemory B (k a) g ram rom b h ram′ m → OnMemory B (p >>= k) f ram rom b h ram′ m
-  memory-free {ram = ram} {rom = rom} x y = record { at = λ s tape log. seq-free k (x .at s ram rom tape log) (y .at s tape log) }
+  pub memory-free : {ram rom ram′ : List ℕ} {m : Bus} {u : ℕ} → OnFile A p f a g → OnMemory B (k a) g ram rom b h ram′ m u → OnMemory B (p >>= k) f ram rom b h ram′ m u
+  memory-free {ram = ram} {rom = rom} x y = record { most = y .most; at = λ s tape log. seq-free k (x .at s ram rom tape log) (y .at s tape log) }
 
-  pub memory-last : {ram rom ram′ : List ℕ} {n : Bus} → OnMemory A p f ram rom a g ram′ n → OnFile B (k a) g b h → OnMemory B (p >>= k) f ram rom b h ram′ n
-  memory-last {rom = rom} {ram′ = ram′} x y = record { at = λ s tape log. seq-last k (x .at s tape log) (y .at s ram′ rom tape log) }
+  pub memory-last : {ram rom ram′ : List ℕ} {n : Bus} {t : ℕ} → OnMemory A p f ram rom a g ram′ n t → OnFile B (k a) g b h → OnMemory B (p >>= k) f ram rom b h ram′ n t
+  memory-last {rom = rom} {ram′ = ram′} x y = record { most = x .most; at = λ s tape log. seq-last k (x .at s tape log) (y .at s ram′ rom tape log) }
 
--- one access of memory
-pub memory-peek : (b : Bool) (g o v : ℕ) (n : Bus) (f ram rom : List ℕ) → v ≡ readMem b ram rom g o → n ≡ busOf b o → OnMemory ℕ (peek b g o) f ram rom v f ram n
-memory-peek b g o v n f ram rom e q = record { at = λ s tape log. ends-peek b g o v n e q }
+-- ---- code that is lent the memory
 
-pub memory-poke : (b : Bool) (g o v : ℕ) (n : Bus) (f ram rom ram′ : List ℕ) → ram′ ≡ writeMem b ram g o v → n ≡ busOf b o → OnMemory Unit (poke b g o v) f ram rom tt f ram′ n
-memory-poke b g o v n f ram rom ram′ e q = record { at = λ s tape log. ends-poke b g o v n ram′ e q }
+-- code that is lent the registers alone makes no access
+pub on-memory : {A : Type 0} {p : Act A} {f f′ : List ℕ} {a : A} (ram rom : List ℕ) (top : ℕ) → OnFile A p f a f′ → OnMemory A p f ram rom a f′ ram nothing top
+on-memory ram rom top h = record { most = omega arith; at = λ s tape log. h .at s ram rom tape log }
+
+-- a larger bound will do
+pub memory-at-most : {A : Type 0} {p : Act A} {f ram rom f′ ram′ : List ℕ} {a : A} {n : Bus} {t : ℕ} (u : ℕ) → t ≤ u → OnMemory A p f ram rom a f′ ram′ n t → OnMemory A p f ram rom a f′ ram′ n u
+memory-at-most u q h = record { most = (let m = h .most in omega arith); at = h .at }
+
+bus-most : (b : Bool) (o : ℕ) → busCycles b o ≤ 2
+unfolding busCycles
+bus-most true o = omega arith
+bus-most false o = lit≤ tt
+
+-- one access
+pub memory-peek : (b : Bool) (g o v : ℕ) (n : Bus) (f ram rom : List ℕ) → v ≡ readMem b ram rom g o → n ≡ busOf b o → OnMemory ℕ (peek b g o) f ram rom v f ram n 2
+memory-peek b g o v n f ram rom e q = record { most = rw q (bus-most b o); at = λ s tape log. ends-peek b g o v n e q }
+
+pub memory-poke : (b : Bool) (g o v : ℕ) (n : Bus) (f ram rom ram′ : List ℕ) → ram′ ≡ writeMem b ram g o v → n ≡ busOf b o → OnMemory Unit (poke b g o v) f ram rom tt f ram′ n 2
+memory-poke b g o v n f ram rom ram′ e q = record { most = rw q (bus-most b o); at = λ s tape log. ends-poke b g o v n ram′ e q }
+
+-- ---- a choice that is known
+
+module _ {A : Type 0} (p q : Act A) {c : Bool} {f g : List ℕ} {a : A} where
+  pub file-true : c ≡ true → OnFile A p f a g → OnFile A (pick c p q) f a g
+  file-true e h = rw e h
+
+  pub file-false : c ≡ false → OnFile A q f a g → OnFile A (pick c p q) f a g
+  file-false e h = rw e h
+
+  pub memory-true : {ram rom ram′ : List ℕ} {n : Bus} {t : ℕ} → c ≡ true → OnMemory A p f ram rom a g ram′ n t → OnMemory A (pick c p q) f ram rom a g ram′ n t
+  memory-true e h = rw e h
+
+  pub memory-false : {ram rom ram′ : List ℕ} {n : Bus} {t : ℕ} → c ≡ false → OnMemory A q f ram rom a g ram′ n t → OnMemory A (pick c p q) f ram rom a g ram′ n t
+  memory-false e h = rw e h

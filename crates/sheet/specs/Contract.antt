@@ -1,11 +1,12 @@
 -- What contracts say: what a caller sees of a tree, of the whole world or of the part that it lends.
-use Prim.Native.Nat.{ℕ}
+use Prim.Native.Nat.{ℕ, _≤_}
 use mathlib.Core.Path.{_≡_}
 use mathlib.Core.List.{List}
 use Rattle.sheet.specs.declared.State.{State}
 use Rattle.sheet.specs.declared.Bus.{Bus}
 use Rattle.sheet.specs.declared.Flagged.{Flagged}
 use Rattle.sheet.specs.Psw.{keeps, column, settled}
+use Rattle.sheet.specs.Reading.{Reading, known, unknown, scan}
 use Rattle.sheet.specs.Act.{Act}
 use Rattle.sheet.specs.World.{World, world, withFile}
 use Rattle.sheet.specs.Arithmetic.{Result}
@@ -36,11 +37,21 @@ pub record OnFile (A : Type 0) (p : Act A) (f : List ℕ) (a : A) (f′ : List �
   pub at : (s : State) (ram rom tape log : List ℕ)
       → Ends A p (world (withFile s f) ram rom tape log) a (world (withFile s f′) ram rom tape log) nothing
 
--- code that is lent the registers and the memory
-pub record OnMemory (A : Type 0) (p : Act A) (f ram rom : List ℕ) (a : A) (f′ ram′ : List ℕ) (n : Bus) : Type 0 where
+-- code that is lent the registers and the memory, with the most bus cycles that it takes
+pub record OnMemory (A : Type 0) (p : Act A) (f ram rom : List ℕ) (a : A) (f′ ram′ : List ℕ) (n : Bus) (top : ℕ) : Type 0 where
+  pub most : n .cycles ≤ top
   pub at : (s : State) (tape log : List ℕ)
       → Ends A p (world (withFile s f) ram rom tape log) a (world (withFile s f′) ram′ rom tape log) n
 
 -- a result, and the PSW that its column makes of an old one
 unfoldable pub flagged : Result → ℕ → Flagged
 flagged r psw = record { value = r .value; psw = settled keeps (column (r .column)) psw }
+
+-- a reading, begun after i bytes of a source, gives a and has then read j bytes
+pub record Reads (A : Type 0) (p : Reading A) (src : ℕ → ℕ) (i : ℕ) (a : A) (j : ℕ) : Type 0 where
+  pub is : scan p src i ≡ known a j
+
+-- it refuses by the number n, at some byte
+pub record Refuses (A : Type 0) (p : Reading A) (src : ℕ → ℕ) (i n : ℕ) : Type 0 where
+  pub at : ℕ
+  pub is : scan p src i ≡ unknown n at

@@ -9,6 +9,9 @@ use Rattle.sheet.specs.declared.Address.{Address}
 use Rattle.sheet.specs.declared.Address.the-variants.{Formed, Direct}
 use Rattle.sheet.specs.declared.Place.{Place}
 use Rattle.sheet.specs.declared.Place.the-variants.{Register, Memory}
+use Rattle.sheet.specs.declared.Override.{Override}
+use Rattle.sheet.specs.declared.Override.the-variants.{Usual, Named}
+use Rattle.sheet.specs.declared.Prefixes.{Prefixes}
 use Rattle.sheet.specs.declared.Repeat.{Repeat}
 use Rattle.sheet.specs.declared.Repeat.the-variants.{Once, WhileZ, WhileNotZ, WhileCy, WhileNotCy}
 use Rattle.sheet.specs.declared.Instr.{Instr}
@@ -37,24 +40,19 @@ prefixOf b =
     (pick (eqb b 0xf2) (some (repeatPrefix WhileNotZ))
     (pick (eqb b 0xf3) (some (repeatPrefix WhileZ)) none))))))))
 
--- what the prefixes so far say: a segment in place of the default, and a repeat
-pub record Prefixes : Type 0 where
-  pub seg : Option ℕ
-  pub repeat : Repeat
-
 abbrev pub unprefixed : Prefixes
-unprefixed = record { seg = none; repeat = Once }
+unprefixed = record { seg = Usual; repeat = Once }
 
 -- of two alike in kind the last counts; the lock has no effect
 abbrev pub withPrefix : Prefixes → Prefix → Prefixes
-withPrefix p (segmentPrefix n) = record { seg = some n; repeat = p .repeat }
+withPrefix p (segmentPrefix n) = record { seg = Named n; repeat = p .repeat }
 withPrefix p (repeatPrefix q) = record { seg = p .seg; repeat = q }
 withPrefix p lockPrefix = p
 
 -- the segment that counts, where it would be `usual`
-abbrev pub segOr : Option ℕ → ℕ → ℕ
-segOr none usual = usual
-segOr (some n) usual = n
+abbrev pub segOr : Override → ℕ → ℕ
+segOr Usual usual = usual
+segOr (Named n) usual = n
 
 -- ---- mod reg mem
 

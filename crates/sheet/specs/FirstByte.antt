@@ -34,12 +34,13 @@ use Rattle.sheet.specs.declared.Primitive.the-variants.{Movbk, Cmpbk, Cm
 use Rattle.sheet.specs.declared.Port.the-variants.{InDw, Numbered}
 use Rattle.sheet.specs.declared.Io.the-variants.{In, Out}
 use Rattle.sheet.specs.declared.Control.the-variants.{Nop, Halt, Di, Ei, ClrCy, SetCy, NotCy, ClrDir, SetDir}
+use Rattle.sheet.specs.declared.Prefixes.{Prefixes}
 use Rattle.sheet.specs.declared.Instr.{Instr}
 use Rattle.sheet.specs.declared.Instr.the-variants.{Transfers, Calculates, Multiplies, Converts, Shifts, Stacks, Branches, Tests, Interrupts, Blocks, Ports, Controls}
 use Rattle.sheet.specs.Width.{pick}
 use Rattle.sheet.specs.Registers.{AW, inDs1, inPs, inSs, inDs0}
 use Rattle.sheet.specs.Reading.{Reading, got, need, no, _>>=_, _>>_, byte, word, immediate, signedByte, allow}
-use Rattle.sheet.specs.Encoding.{Prefixes, unprefixed, withPrefix, prefixOf, Prefix, segOr, modField, regField, direct, place, memory, Row, row, lookUp, W, toRegister}
+use Rattle.sheet.specs.Encoding.{unprefixed, withPrefix, prefixOf, Prefix, segOr, modField, regField, direct, place, memory, Row, row, lookUp, W, toRegister}
 use Rattle.sheet.specs.SecondByte.{plainPlace, secondBytes}
 
 -- ---- what follows a first byte

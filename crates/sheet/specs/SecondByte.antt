@@ -12,11 +12,12 @@ use Rattle.sheet.specs.declared.Bit.{Bit}
 use Rattle.sheet.specs.declared.Bit.the-variants.{Test1, Clr1, Set1, Not1}
 use Rattle.sheet.specs.declared.Decimal.the-variants.{Add4s, Sub4s, Cmp4s, Rol4, Ror4}
 use Rattle.sheet.specs.declared.Field.the-variants.{Ins, Ext}
+use Rattle.sheet.specs.declared.Prefixes.{Prefixes}
 use Rattle.sheet.specs.declared.Instr.{Instr}
 use Rattle.sheet.specs.declared.Instr.the-variants.{Bits, Decimals, Fields}
 use Rattle.sheet.specs.Registers.{inDs0}
 use Rattle.sheet.specs.Reading.{Reading, got, _>>=_, _>>_, byte, allow}
-use Rattle.sheet.specs.Encoding.{Prefixes, segOr, modField, regField, memField, place, Row, row, W}
+use Rattle.sheet.specs.Encoding.{segOr, modField, regField, memField, place, Row, row, W}
 
 -- a byte whose reg field must be 0
 unfoldable pub plainPlace : Prefixes → Reading Place

@@ -42,11 +42,14 @@ refusal n = refused n []
 -- ---- a step
 
 -- the address of the jth byte of the instruction at PS:PC, and that byte
-abbrev pub codeAt : State → ℕ → ℕ
-codeAt s j = physical (fileOf (s .file) PS) (add16 (fileOf (s .file) PC) j)
+abbrev pub codeAt : ℕ → ℕ → ℕ → ℕ
+codeAt ps pc j = physical ps (add16 pc j)
+
+abbrev pub codeByte : List ℕ → List ℕ → ℕ → ℕ → ℕ → ℕ
+codeByte ram rom ps pc j = byteAt ram rom (codeAt ps pc j)
 
 abbrev pub source : World → ℕ → ℕ
-source w j = byteAt (w .ram) (w .rom) (codeAt (w .state) j)
+source w = codeByte (w .ram) (w .rom) (fileOf (w .state .file) PS) (fileOf (w .state .file) PC)
 
 -- the trap to vector 1 if BRK was 1 before and no other trap was taken; it ends a halt
 unfoldable pub singleStep : Bool → Act Unit

@@ -246,6 +246,18 @@ pub enum Repeat {
     WhileNotCy,
 }
 
+// A segment that a prefix puts in place of the usual one.
+pub enum Override {
+    Usual,
+    Named(u8),
+}
+
+// What the prefixes of an instruction say.
+pub struct Prefixes {
+    pub seg: Override,
+    pub repeat: Repeat,
+}
+
 pub enum Port {
     InDw,
     Numbered(u8),
