@@ -1,0 +1,24 @@
+use Rattle.memory.proofs.Laws.{write-byte, write-word}
+use borrow.Author.Needs.{needs}
+use Rattle.memory.proofs.write.Statement.{statement}
+use Rattle.memory.proofs.write.Tie as tie
+
+returns : tie.Need-returns
+returns c = search write-word
+
+returns-2 : tie.Need-returns-2
+returns-2 c = search write-byte
+
+pub write-spec : {M : Type 1} → statement M
+write-spec =
+    tie.close
+    (tie.spec
+    (λ c. search needs)
+    (λ c κs. search needs)
+    (λ c κs. search needs)
+    (λ c. search needs)
+    (λ c κs. search needs)
+    (λ c. search needs)
+    returns
+    (λ c. search needs)
+    returns-2)

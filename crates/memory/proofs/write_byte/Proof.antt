@@ -1,0 +1,14 @@
+use Rattle.memory.proofs.Laws.{dropped}
+use borrow.Author.Needs.{needs}
+use Rattle.memory.proofs.write_byte.Statement.{statement}
+use Rattle.memory.proofs.write_byte.Tie as tie
+
+returns : tie.Need-returns
+returns c = cc
+
+returns-2 : tie.Need-returns-2
+returns-2 c = search (dropped, needs)
+
+pub write-byte-spec : {M : Type 1} → statement M
+write-byte-spec =
+    tie.close (tie.spec (λ c κs. search needs) (λ c. search needs) (λ c. search needs) returns returns-2)

@@ -1,0 +1,96 @@
+// The address space in code: RAM from address 0, ROM up to FFFFFh, FFh elsewhere.
+use sheet::Bus;
+ghost use mathlib.Core.Path.{_≡_};
+ghost use Prim.Native.Nat.{_≤_, _<_};
+ghost use lib.ListN.{set};
+ghost use Rattle.sheet.specs.Width.{modOf};
+ghost use Rattle.sheet.specs.Memory.{physical, byteAt, readMem, writeMem};
+ghost use Rattle.sheet.specs.Handler.{busOf};
+ghost use Rattle.memory.specs.Accesses.{Loads, Stores};
+
+// The address of an offset in a segment.
+pub fn address(base: u16, offset: u16) -> usize
+    ensures { λ r. ⌜ r ≡ physical base offset ⌝ }
+{
+    ((base as usize) * 16 + (offset as usize)) % 1048576
+}
+
+// The byte at an offset of a segment.
+pub fn read_byte(ram: &[u8], rom: &[u8], base: u16, offset: u16) -> u8
+    ensures { λ r. ⌜ r ≡ byteAt (now (ram .entry)) (now (rom .entry)) (physical base offset) ⌝ }
+{
+    let a = address(base, offset);
+    if a < ram.len() {
+        return ram[a];
+    }
+    if 1048576 <= a + rom.len() {
+        return rom[a + rom.len() - 1048576];
+    }
+    255
+}
+
+// Writes a byte; outside RAM the write is dropped.
+pub fn write_byte(ram: &mut [u8], base: u16, offset: u16, v: u8)
+    ensures { λ _. ⌜ now (ram .exit) ≡ set (now (ram .entry)) (physical base offset) v ⌝ }
+{
+    let a = address(base, offset);
+    if a < ram.len() {
+        ram[a] = v;
+    }
+}
+
+// A byte, or a word with its low byte first.
+pub fn read(word: bool, ram: &[u8], rom: &[u8], base: u16, offset: u16) -> u16
+    ensures { λ r. ⌜ (r ≡ readMem word (now (ram .entry)) (now (rom .entry)) base offset) × (r < modOf word) ⌝ }
+{
+    let low = read_byte(ram, rom, base, offset) as u16;
+    if word {
+        let next = std::num::wrapping_add_u16(offset, 1);
+        return low + 256 * (read_byte(ram, rom, base, next) as u16);
+    }
+    low
+}
+
+pub fn write(word: bool, ram: &mut [u8], base: u16, offset: u16, v: u16)
+    ensures { λ _. ⌜ now (ram .exit) ≡ writeMem word (now (ram .entry)) base offset v ⌝ }
+{
+    write_byte(ram, base, offset, (v % 256) as u8);
+    if word {
+        let next = std::num::wrapping_add_u16(offset, 1);
+        write_byte(ram, base, next, (v / 256 % 256) as u8);
+    }
+}
+
+// What an access of a width at an offset, or at a port, comes to.
+pub fn bus_of(word: bool, offset: u16) -> Bus
+    ensures { λ r. ⌜ (r ≡ busOf word offset) × (r .cycles ≤ 2) ⌝ }
+{
+    if word {
+        return Bus {
+            cycles: 1 + ((offset % 2) as u32),
+        };
+    }
+    Bus { cycles: 1 }
+}
+
+// A number that was read, and what reading it came to on the bus.
+pub struct Loaded {
+    pub value: u16,
+    pub bus: Bus,
+}
+
+pub fn load(word: bool, ram: &[u8], rom: &[u8], base: u16, offset: u16) -> Loaded
+    ensures { λ r. ⌜ Loads word (now (ram .entry)) (now (rom .entry)) base offset (r .value) (r .bus) ⌝ }
+{
+    Loaded {
+        value: read(word, ram, rom, base, offset),
+        bus: bus_of(word, offset),
+    }
+}
+
+pub fn store(word: bool, ram: &mut [u8], base: u16, offset: u16, v: u16) -> Bus
+    ensures { λ r. ⌜ Stores word (now (ram .entry)) base offset v (now (ram .exit)) r ⌝ }
+{
+    write(word, ram, base, offset, v);
+    bus_of(word, offset)
+}
