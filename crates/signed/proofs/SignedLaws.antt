@@ -5,7 +5,7 @@ use Prim.Native.Nat.{ℕ, zero, suc, _-_, _*_, _%_, _^_, _≤_, _<_}
 use native.Mathlib.Omega.{arith}
 use borrow.Author.Tests.{ltb-true, le-ltb, lt-ltb}
 use lib.Dec.{ltb}
-use lib.IntN.{ℤ, pos, negsuc, natAbs, subℕ, _-ℤ_, pos-ne-negsuc}
+use lib.IntN.{ℤ, pos, negsuc, negℤ, natAbs, subℕ, _-ℤ_, pos-ne-negsuc}
 use lib.Signed.{mag, ltZ}
 use mir.Syntax.{w64}
 use mir.Val.{toZ, ofZ, SFits}
@@ -19,6 +19,10 @@ reads-pos n h = toZ-pos w64 n h
 -- what is read back from a result
 pub passes : {q z : ℤ} → q ≡ z → SFits w64 z → toZ w64 (ofZ w64 q) ≡ z
 passes {z = z} e h = ap (λ (y : ℤ). toZ w64 (ofZ w64 y)) e ∙ toZ-ofZ w64 z h
+
+pub mag-neg : (r : ℕ) → mag (negℤ (pos r)) ≤ r
+mag-neg zero = omega arith
+mag-neg (suc r) = omega arith
 
 -- ---- differences
 
@@ -36,6 +40,13 @@ mag-diff a (suc b) k ha hb = mag-sub a (suc b) k ha hb
 pub diff-fits : (a b : ℕ) → a < 2 ^ 40 → b < 2 ^ 40 → SFits w64 (pos a -ℤ pos b)
 diff-fits a b ha hb = record { sfits = mag-diff a b (2 ^ 63) (omega arith) (omega arith) }
 
+-- -h
+pub minus-fits : (h : ℕ) → h < 2 ^ 40 → SFits w64 (pos 0 -ℤ toZ w64 h)
+minus-fits h l = rw (reads-pos h (omega arith)) (diff-fits 0 h (omega arith) l)
+
+pub minus-reads : (h : ℕ) → h < 2 ^ 40 → toZ w64 (ofZ w64 (pos 0 -ℤ toZ w64 h)) ≡ pos 0 -ℤ pos h
+minus-reads h l = rw (reads-pos h (omega arith)) (toZ-ofZ w64 (pos 0 -ℤ pos h) (diff-fits 0 h (omega arith) l))
+
 -- ---- the range of a signed reading, and that only 0 reads as 0
 
 pub signed-lt : (h x k : ℕ) → x < k → 2 * h ≤ k → mag (signedOf h x) < k
@@ -45,6 +56,9 @@ signed-lt h x k hx hh = go (ltb x h) refl
     go : (t : Bool) → ltb x h ≡ t → mag (signedOf h x) < k
     go true e = rw e hx
     go false e = rw e (mag-diff x (2 * h) k hx hh)
+
+pub signed-fits : (h x : ℕ) → x < 2 ^ 40 → h < 2 ^ 40 → SFits w64 (signedOf h x)
+signed-fits h x hx hh = record { sfits = signed-lt h x (2 ^ 63) (omega arith) (omega arith) }
 
 diff-nz : (a b : ℕ) → a < b → pos a -ℤ pos b ≡ pos 0 → ⊥
 diff-nz a zero h e = omega arith
