@@ -1,1 +1,2 @@
 pub mod QuotientReads
+pub mod QuotientLaws
