@@ -42,11 +42,11 @@ unfoldable pub formAt : ℕ → Form
 formAt n = getD forms (n % 8) (form BW Nothing inDs0)
 
 unfoldable pub indexOf : File → Index → ℕ
-indexOf r (Of n) = r n
+indexOf r (Of n) = readReg true r n
 indexOf r Nothing = 0
 
 unfoldable pub formOffset : File → Form → ℕ → ℕ
-formOffset r f disp = (r (f .base) + indexOf r (f .index) + disp) % 65536
+formOffset r f disp = (readReg true r (f .base) + indexOf r (f .index) + disp) % 65536
 
 -- an address's offset, and the word of its segment register
 unfoldable pub offsetOf : File → Address → ℕ

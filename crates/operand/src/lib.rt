@@ -1,0 +1,121 @@
+// Operands in code: where they stand, how they are read and written.
+use memory::Loaded;
+use sheet::Address;
+use sheet::Bus;
+use sheet::Index;
+use sheet::Place;
+use sheet::Source;
+use sheet::Spot;
+ghost use mathlib.Core.Path.{_≡_};
+ghost use Prim.Native.Nat.{ℕ};
+ghost use Rattle.sheet.specs.Registers.{fileOf};
+ghost use Rattle.sheet.specs.Operand.{indexOf, formAt, formOffset, offsetOf, baseOf};
+ghost use Rattle.sheet.specs.Operand as tree;
+ghost use Rattle.sheet.specs.Contract.{OnFile, OnMemory};
+
+// The word of an index register, or 0.
+fn index(file: &[u16; 14], i: Index) -> u16
+    ensures { λ r. ⌜ r ≡ indexOf (fileOf (now (file .entry))) i ⌝ }
+{
+    match i {
+        Index::Of(n) => registers::reg(true, file, n),
+        Index::Nothing => 0,
+    }
+}
+
+// The offset of an address form with a displacement.
+fn form_offset(file: &[u16; 14], form: u8, disp: u16) -> u16
+    ensures { λ r. ⌜ r ≡ formOffset (fileOf (now (file .entry))) (formAt form) disp ⌝ }
+{
+    let f = forms::form_at(form);
+    let i = f.index;
+    let low = word::plus16(registers::reg(true, file, f.base), index(file, i));
+    word::plus16(low, disp)
+}
+
+// An address's offset.
+pub fn offset(file: &[u16; 14], a: Address) -> u16
+    ensures { λ r. ⌜ r ≡ offsetOf (fileOf (now (file .entry))) a ⌝ }
+{
+    match a {
+        Address::Formed { seg, form, disp } => form_offset(file, form, disp),
+        Address::Direct { seg, offset } => offset,
+    }
+}
+
+// The word of an address's segment register.
+pub fn base(file: &[u16; 14], a: Address) -> u16
+    ensures { λ r. ⌜ r ≡ baseOf (fileOf (now (file .entry))) a ⌝ }
+{
+    match a {
+        Address::Formed { seg, form, disp } => registers::base(file, seg),
+        Address::Direct { seg, offset } => registers::base(file, seg),
+    }
+}
+
+// A place with its address computed.
+pub fn locate(file: &[u16; 14], place: Place) -> Spot
+    ensures { λ r. ⌜ OnFile Spot (tree.locate place) (now (file .entry)) r (now (file .entry)) ⌝ }
+{
+    match place {
+        Place::Register(n) => Spot::InRegister(n),
+        Place::Memory(a) => Spot::InMemory {
+            base: base(file, a),
+            offset: offset(file, a),
+        },
+    }
+}
+
+// Reads what stands there.
+pub fn fetch(word: bool, file: &[u16; 14], ram: &[u8], rom: &[u8], spot: Spot) -> Loaded
+    ensures { λ r. ⌜ OnMemory ℕ (tree.fetch word spot) (now (file .entry)) (now (ram .entry)) (now (rom .entry)) (r .value) (now (file .entry)) (now (ram .entry)) (r .bus) 2 ⌝ }
+{
+    match spot {
+        Spot::InRegister(n) => Loaded {
+            value: registers::reg(word, file, n),
+            bus: Bus { cycles: 0 },
+        },
+        Spot::InMemory { base, offset } => memory::load(word, ram, rom, base, offset),
+    }
+}
+
+// Writes there.
+pub fn deposit(
+    word: bool,
+    file: &mut [u16; 14],
+    ram: &mut [u8],
+    rom: &[u8],
+    spot: Spot,
+    v: u16,
+) -> Bus
+    ensures { λ r. ⌜ OnMemory Unit (tree.deposit word spot v) (now (file .entry)) (now (ram .entry)) (now (rom .entry)) tt (now (file .exit)) (now (ram .exit)) r 2 ⌝ }
+{
+    match spot {
+        Spot::InRegister(n) => {
+            registers::set_reg(word, file, n, v);
+            Bus { cycles: 0 }
+        }
+        Spot::InMemory { base, offset } => memory::store(word, ram, base, offset, v),
+    }
+}
+
+// A place that is only read.
+pub fn value_at(word: bool, file: &[u16; 14], ram: &[u8], rom: &[u8], place: Place) -> Loaded
+    ensures { λ r. ⌜ OnMemory ℕ (tree.valueAt word place) (now (file .entry)) (now (ram .entry)) (now (rom .entry)) (r .value) (now (file .entry)) (now (ram .entry)) (r .bus) 2 ⌝ }
+{
+    let spot = locate(file, place);
+    fetch(word, file, ram, rom, spot)
+}
+
+// A place or an immediate.
+pub fn source_value(word: bool, file: &[u16; 14], ram: &[u8], rom: &[u8], source: Source) -> Loaded
+    ensures { λ r. ⌜ OnMemory ℕ (tree.sourceValue word source) (now (file .entry)) (now (ram .entry)) (now (rom .entry)) (r .value) (now (file .entry)) (now (ram .entry)) (r .bus) 2 ⌝ }
+{
+    match source {
+        Source::Held(place) => value_at(word, file, ram, rom, place),
+        Source::Immediate(v) => Loaded {
+            value: v,
+            bus: Bus { cycles: 0 },
+        },
+    }
+}
