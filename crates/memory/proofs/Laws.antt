@@ -61,7 +61,7 @@ unfolding busCycles
 bus-byte w o p = rw p
 
 pub loads : (w : Bool) (ram rom : List ℕ) (g o v : ℕ) (n : Bus) → v ≡ readMem w ram rom g o → v < modOf w → n ≡ busOf w o → n .cycles ≤ 2 → Loads w ram rom g o v n
-loads w ram rom g o v n e h q k = record { below = h; most = k; at = λ f. memory-peek w g o v n f ram rom e q }
+loads w ram rom g o v n e h q k = record { below = h; cost = q; most = k; at = λ f. memory-peek w g o v n f ram rom e q }
 
 pub stores : (w : Bool) (ram ram′ : List ℕ) (g o v : ℕ) (n : Bus) → ram′ ≡ writeMem w ram g o v → n ≡ busOf w o → n .cycles ≤ 2 → Stores w ram g o v ram′ n
-stores w ram ram′ g o v n e q k = record { most = k; at = λ f rom. memory-poke w g o v n f ram rom ram′ e q }
+stores w ram ram′ g o v n e q k = record { cost = q; most = k; at = λ f rom. memory-poke w g o v n f ram rom ram′ e q }

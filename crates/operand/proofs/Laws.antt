@@ -1,7 +1,7 @@
 -- What each return of the code comes to, over plain values.
 use Prim.Native.Nat.{ℕ, _+_, _%_}
 use mathlib.Core.Path.{_≡_, refl}
-use mathlib.Core.Bool.{Bool, true}
+use mathlib.Core.Bool.{Bool, true, false}
 use mathlib.Core.List.{List}
 use native.Mathlib.Omega.{arith}
 use Rattle.sheet.specs.declared.Bus.{Bus}
@@ -10,6 +10,8 @@ use Rattle.sheet.specs.declared.Index.the-variants.{Of, Nothing}
 use Rattle.sheet.specs.declared.Form.{Form}
 use Rattle.sheet.specs.declared.Address.{Address}
 use Rattle.sheet.specs.declared.Address.the-variants.{Formed, Direct}
+use Rattle.sheet.specs.declared.Amount.{Amount}
+use Rattle.sheet.specs.declared.Amount.the-variants.{InCl, Given}
 use Rattle.sheet.specs.declared.Place.{Place}
 use Rattle.sheet.specs.declared.Place.the-variants.{Register, Memory}
 use Rattle.sheet.specs.declared.Source.{Source}
@@ -18,10 +20,10 @@ use Rattle.sheet.specs.declared.Spot.{Spot}
 use Rattle.sheet.specs.declared.Spot.the-variants.{InRegister, InMemory}
 use Rattle.sheet.specs.Width.{add16}
 use Rattle.sheet.specs.Registers.{fileOf, segment, readReg}
-use Rattle.sheet.specs.Handler.{nothing}
-use Rattle.sheet.specs.Operand.{indexOf, formAt, formOffset, offsetOf, baseOf, regValue, setReg, locate, fetch, deposit, valueAt, sourceValue}
+use Rattle.sheet.specs.Handler.{nothing, _⊕_}
+use Rattle.sheet.specs.Operand.{indexOf, formAt, formOffset, offsetOf, baseOf, regValue, setReg, locate, fetch, deposit, valueAt, sourceValue, pairAt, amountOf}
 use Rattle.sheet.specs.Contract.{OnFile, OnMemory}
-use Rattle.sheet.proofs.Lifted.{file-seq, file-pure, file-registers, memory-free, on-memory}
+use Rattle.sheet.proofs.Lifted.{file-seq, file-pure, file-registers, memory-seq, memory-free, memory-last, on-memory}
 use Rattle.memory.specs.Accesses.{Loads, Stores}
 
 pub index-of : (f : List ℕ) (i : Index) (n x : ℕ) → i ≡ Of n → x ≡ readReg true (fileOf f) n → x ≡ indexOf (fileOf f) i
@@ -90,3 +92,17 @@ source-held w x p f ram rom v n e h = rw e h
 pub source-immediate : (w : Bool) (x : Source) (f ram rom : List ℕ) (v : ℕ) → x ≡ Immediate v → OnMemory ℕ (sourceValue w x) f ram rom v f ram nothing 2
 unfolding sourceValue
 source-immediate w x f ram rom v e = rw e (on-memory ram rom 2 file-pure)
+
+pub pair-is : (a : Address) (f ram rom : List ℕ) (g o q x y : ℕ) (n m : Bus) → g ≡ baseOf (fileOf f) a → o ≡ offsetOf (fileOf f) a → q ≡ add16 o 2 → Loads true ram rom g o x n → Loads true ram rom g q y m
+    → OnMemory (ℕ × ℕ) (pairAt a) f ram rom ((x, y)) f ram (n ⊕ m) 4
+unfolding pairAt
+pair-is a f ram rom g o q x y n m e h k u v =
+    memory-free _ file-registers (rw (← e, ← h, ← k) (memory-seq _ (u .at f) (memory-last _ (v .at f) file-pure)))
+
+pub amount-cl : (a : Amount) (f : List ℕ) (v : ℕ) → a ≡ InCl → v ≡ readReg false (fileOf f) 1 → OnFile ℕ (amountOf a) f v f
+unfolding amountOf regValue
+amount-cl a f v e q = rw (e, q) (file-seq _ file-registers file-pure)
+
+pub amount-given : (a : Amount) (f : List ℕ) (n : ℕ) → a ≡ Given n → OnFile ℕ (amountOf a) f n f
+unfolding amountOf
+amount-given a f n e = rw e file-pure

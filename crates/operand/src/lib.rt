@@ -1,6 +1,7 @@
 // Operands in code: where they stand, how they are read and written.
 use memory::Loaded;
 use sheet::Address;
+use sheet::Amount;
 use sheet::Bus;
 use sheet::Index;
 use sheet::Place;
@@ -117,5 +118,39 @@ pub fn source_value(word: bool, file: &[u16; 14], ram: &[u8], rom: &[u8], source
             value: v,
             bus: Bus { cycles: 0 },
         },
+    }
+}
+
+// The two words of a 32-bit operand, and what reading them came to.
+pub struct Pair {
+    pub low: u16,
+    pub high: u16,
+    pub bus: Bus,
+}
+
+pub fn pair_at(file: &[u16; 14], ram: &[u8], rom: &[u8], a: Address) -> Pair
+    ensures { λ r. ⌜ OnMemory (ℕ × ℕ) (tree.pairAt a) (now (file .entry)) (now (ram .entry)) (now (rom .entry)) ((r .low, r .high)) (now (file .entry)) (now (ram .entry)) (r .bus) 4 ⌝ }
+{
+    let g = base(file, a);
+    let o = offset(file, a);
+    let next = word::plus16(o, 2);
+    let low = memory::load(true, ram, rom, g, o);
+    let high = memory::load(true, ram, rom, g, next);
+    Pair {
+        low: low.value,
+        high: high.value,
+        bus: Bus {
+            cycles: low.bus.cycles + high.bus.cycles,
+        },
+    }
+}
+
+// A number in CL or given.
+pub fn amount(file: &[u16; 14], a: Amount) -> u16
+    ensures { λ r. ⌜ OnFile ℕ (tree.amountOf a) (now (file .entry)) r (now (file .entry)) ⌝ }
+{
+    match a {
+        Amount::InCl => registers::reg(false, file, 1),
+        Amount::Given(n) => n as u16,
     }
 }

@@ -1,0 +1,10 @@
+use Rattle.traps.proofs.Laws.{two-are}
+use borrow.Author.Needs.{needs}
+use Rattle.traps.proofs.push_two.Statement.{statement}
+use Rattle.traps.proofs.push_two.Tie as tie
+
+returns : tie.Need-returns
+returns c = search (two-are, needs)
+
+pub push-two-spec : {M : Type 1} → statement M
+push-two-spec = tie.close (tie.spec (λ c κs. search needs) (λ c κs. search needs) (λ c. search needs) (λ c. search needs) returns)

@@ -1,0 +1,23 @@
+use Rattle.traps.proofs.Laws.{save-is}
+use borrow.Author.Needs.{needs}
+use Rattle.traps.proofs.save.Statement.{statement}
+use Rattle.traps.proofs.save.Tie as tie
+
+returns : tie.Need-returns
+returns c = search (save-is, needs)
+
+pub save-spec : {M : Type 1} → statement M
+save-spec =
+    tie.close
+    (tie.spec
+    (λ c. search needs)
+    (λ c κs. search needs)
+    (λ c. search needs)
+    (λ c κs. search needs)
+    (λ c. search needs)
+    (λ c. search needs)
+    (λ c. search needs)
+    (λ c κs. search needs)
+    (λ c. search needs)
+    (λ c. search needs)
+    returns)

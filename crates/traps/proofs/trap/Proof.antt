@@ -1,0 +1,19 @@
+use Rattle.traps.proofs.Laws.{trap-is}
+use borrow.Author.Needs.{needs}
+use Rattle.traps.proofs.trap.Statement.{statement}
+use Rattle.traps.proofs.trap.Tie as tie
+
+returns : tie.Need-returns
+returns c = search (trap-is, needs)
+
+pub trap-spec : {M : Type 1} → statement M
+trap-spec =
+    tie.close
+    (tie.spec
+    (λ c κs. search needs)
+    (λ c κs. search needs)
+    (λ c. search needs)
+    (λ c. search needs)
+    (λ c. search needs)
+    (λ c. search needs)
+    returns)

@@ -1,0 +1,10 @@
+use Rattle.traps.proofs.Laws.{fetches}
+use borrow.Author.Needs.{needs}
+use Rattle.traps.proofs.vector.Statement.{statement}
+use Rattle.traps.proofs.vector.Tie as tie
+
+returns : tie.Need-returns
+returns c = search (fetches, needs)
+
+pub vector-spec : {M : Type 1} → statement M
+vector-spec = tie.close (tie.spec (λ c. search needs) (λ c κs. search needs) (λ c. search needs) (λ c κs. search needs) (λ c. search needs) returns)

@@ -1,0 +1,2 @@
+pub mod PushTwo
+pub mod Vector

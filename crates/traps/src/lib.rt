@@ -1,0 +1,92 @@
+// The stack and traps in code.
+use memory::Loaded;
+use registers::PC;
+use registers::PS;
+use registers::PSW;
+use registers::SP;
+use registers::SS;
+use sheet::Bus;
+ghost use mathlib.Core.Path.{_≡_};
+ghost use Prim.Native.Nat.{ℕ};
+ghost use Rattle.sheet.specs.Traps as tree;
+ghost use Rattle.sheet.specs.Contract.{OnMemory};
+ghost use Rattle.traps.specs.PushTwo.{pushTwo};
+ghost use Rattle.traps.specs.Vector.{Fetches};
+
+pub fn push(file: &mut [u16; 14], ram: &mut [u8], rom: &[u8], v: u16) -> Bus
+    ensures { λ r. ⌜ OnMemory Unit (tree.push v) (now (file .entry)) (now (ram .entry)) (now (rom .entry)) tt (now (file .exit)) (now (ram .exit)) r 2 ⌝ }
+{
+    let sp = word::minus16(file[SP], 2);
+    let ss = file[SS];
+    file[SP] = sp;
+    memory::store(true, ram, ss, sp, v)
+}
+
+pub fn pop(file: &mut [u16; 14], ram: &[u8], rom: &[u8]) -> Loaded
+    ensures { λ r. ⌜ OnMemory ℕ tree.pop (now (file .entry)) (now (ram .entry)) (now (rom .entry)) (r .value) (now (file .exit)) (now (ram .entry)) (r .bus) 2 ⌝ }
+{
+    let sp = file[SP];
+    let ss = file[SS];
+    file[SP] = word::plus16(sp, 2);
+    memory::load(true, ram, rom, ss, sp)
+}
+
+// Pushes x, then y.
+pub fn push_two(file: &mut [u16; 14], ram: &mut [u8], rom: &[u8], x: u16, y: u16) -> Bus
+    ensures { λ r. ⌜ OnMemory Unit (pushTwo x y) (now (file .entry)) (now (ram .entry)) (now (rom .entry)) tt (now (file .exit)) (now (ram .exit)) r 4 ⌝ }
+{
+    let a = push(file, ram, rom, x);
+    let b = push(file, ram, rom, y);
+    Bus {
+        cycles: a.cycles + b.cycles,
+    }
+}
+
+// PSW, PS and the PC then due go onto the stack; IE and BRK become 0.
+pub fn save(file: &mut [u16; 14], ram: &mut [u8], rom: &[u8]) -> Bus
+    ensures { λ r. ⌜ OnMemory Unit tree.save (now (file .entry)) (now (ram .entry)) (now (rom .entry)) tt (now (file .exit)) (now (ram .exit)) r 6 ⌝ }
+{
+    let old = file[PSW];
+    let a = push(file, ram, rom, old);
+    file[PSW] = psw::enter(file[PSW]);
+    let ps = file[PS];
+    let pc = file[PC];
+    let b = push_two(file, ram, rom, ps, pc);
+    Bus {
+        cycles: a.cycles + b.cycles,
+    }
+}
+
+// Where a vector points.
+pub struct Target {
+    pub pc: u16,
+    pub ps: u16,
+    pub bus: Bus,
+}
+
+pub fn vector(ram: &[u8], rom: &[u8], v: u8) -> Target
+    ensures { λ r. ⌜ Fetches (now (ram .entry)) (now (rom .entry)) v (r .pc) (r .ps) (r .bus) ⌝ }
+{
+    let at = 4 * (v as u16);
+    let pc = memory::load(true, ram, rom, 0, at);
+    let ps = memory::load(true, ram, rom, 0, at + 2);
+    Target {
+        pc: pc.value,
+        ps: ps.value,
+        bus: Bus {
+            cycles: pc.bus.cycles + ps.bus.cycles,
+        },
+    }
+}
+
+pub fn trap(file: &mut [u16; 14], ram: &mut [u8], rom: &[u8], v: u8) -> Bus
+    ensures { λ r. ⌜ OnMemory Unit (tree.trap v) (now (file .entry)) (now (ram .entry)) (now (rom .entry)) tt (now (file .exit)) (now (ram .exit)) r 8 ⌝ }
+{
+    let at = vector(ram, rom, v);
+    let b = save(file, ram, rom);
+    file[PS] = at.ps;
+    file[PC] = at.pc;
+    Bus {
+        cycles: at.bus.cycles + b.cycles,
+    }
+}
