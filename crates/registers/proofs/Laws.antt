@@ -7,7 +7,7 @@ use native.Mathlib.Omega.{arith}
 use lib.ListN.{getD, set}
 use borrow.Author.Tests.{lt-ltb, le-ltb}
 use Rattle.sheet.specs.Registers.{PSW, fileOf, written, segment, readReg, regIndex, regWord}
-use Rattle.sheet.specs.Act.{registers}
+use Rattle.sheet.specs.Act.{registers, _≔_}
 use Rattle.sheet.specs.Operand.{setReg}
 use Rattle.sheet.specs.Contract.{OnFile}
 use Rattle.sheet.proofs.Lifted.{file-seq, file-registers, file-set}
@@ -60,3 +60,6 @@ module _ (w : Bool) (f g : List ℕ) (n v x : ℕ) where
 
 pub base-is : (f : List ℕ) (seg x : ℕ) → x ≡ getD f (8 + seg % 4) 0 → x ≡ fileOf f (segment seg)
 base-is f seg x q = rw (file-word f (8 + seg % 4) (omega arith)) q
+
+pub set-base-is : (f g : List ℕ) (seg v : ℕ) → g ≡ set f (8 + seg % 4) v → OnFile Unit (segment seg ≔ v) f tt g
+set-base-is f g seg v e = rw (e, ← file-written f (8 + seg % 4) v (omega arith)) (file-set (segment seg) v)

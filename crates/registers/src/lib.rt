@@ -2,6 +2,7 @@
 ghost use mathlib.Core.Path.{_≡_};
 ghost use Prim.Native.Nat.{ℕ};
 ghost use Rattle.sheet.specs.Registers.{fileOf, segment, readReg};
+ghost use Rattle.sheet.specs.Act.{_≔_};
 ghost use Rattle.sheet.specs.Operand.{setReg};
 ghost use Rattle.sheet.specs.Contract.{OnFile};
 
@@ -72,4 +73,11 @@ pub fn base(file: &[u16; 14], seg: u8) -> u16
 {
     let i = 8 + (seg % 4) as usize;
     file[i]
+}
+
+pub fn set_base(file: &mut [u16; 14], seg: u8, v: u16)
+    ensures { λ _. ⌜ OnFile Unit (_≔_ (segment seg) v) (now (file .entry)) tt (now (file .exit)) ⌝ }
+{
+    let i = 8 + (seg % 4) as usize;
+    file[i] = v;
 }
