@@ -1,0 +1,144 @@
+// MOV, LDEA, TRANS, XCH.
+use registers::AW;
+use registers::BW;
+use registers::PSW;
+use sheet::Address;
+use sheet::Bus;
+use sheet::Place;
+use sheet::Source;
+use sheet::Transfer;
+ghost use mathlib.Core.Path.{_≡_};
+ghost use Rattle.sheet.specs.Transfer as tree;
+ghost use Rattle.sheet.specs.Contract.{OnMemory};
+
+fn mov(file: &mut [u16; 14], ram: &mut [u8], rom: &[u8], word: bool, to: Place, from: Source) -> Bus
+    ensures { λ r. ⌜ OnMemory Unit (tree.mov word to from) (now (file .entry)) (now (ram .entry)) (now (rom .entry)) tt (now (file .exit)) (now (ram .exit)) r 4 ⌝ }
+{
+    let v = operand::source_value(word, file, ram, rom, from);
+    let spot = operand::locate(file, to);
+    let b = operand::deposit(word, file, ram, rom, spot, v.value);
+    Bus {
+        cycles: v.bus.cycles + b.cycles,
+    }
+}
+
+// MOV acc,dmem
+fn load_acc(file: &mut [u16; 14], ram: &mut [u8], rom: &[u8], word: bool, from: Address) -> Bus
+    ensures { λ r. ⌜ OnMemory Unit (tree.loadAcc word from) (now (file .entry)) (now (ram .entry)) (now (rom .entry)) tt (now (file .exit)) (now (ram .exit)) r 4 ⌝ }
+{
+    let g = operand::base(file, from);
+    let o = operand::offset(file, from);
+    let v = memory::load(word, ram, rom, g, o);
+    registers::set_reg(word, file, 0, v.value);
+    v.bus
+}
+
+// MOV dmem,acc
+fn store_acc(file: &mut [u16; 14], ram: &mut [u8], rom: &[u8], word: bool, to: Address) -> Bus
+    ensures { λ r. ⌜ OnMemory Unit (tree.storeAcc word to) (now (file .entry)) (now (ram .entry)) (now (rom .entry)) tt (now (file .exit)) (now (ram .exit)) r 4 ⌝ }
+{
+    let v = registers::reg(word, file, 0);
+    let g = operand::base(file, to);
+    let o = operand::offset(file, to);
+    memory::store(word, ram, g, o, v)
+}
+
+fn to_segment(file: &mut [u16; 14], ram: &mut [u8], rom: &[u8], seg: u8, from: Place) -> Bus
+    ensures { λ r. ⌜ OnMemory Unit (tree.toSegment seg from) (now (file .entry)) (now (ram .entry)) (now (rom .entry)) tt (now (file .exit)) (now (ram .exit)) r 4 ⌝ }
+{
+    let v = operand::value_at(true, file, ram, rom, from);
+    registers::set_base(file, seg, v.value);
+    v.bus
+}
+
+fn from_segment(file: &mut [u16; 14], ram: &mut [u8], rom: &[u8], to: Place, seg: u8) -> Bus
+    ensures { λ r. ⌜ OnMemory Unit (tree.fromSegment to seg) (now (file .entry)) (now (ram .entry)) (now (rom .entry)) tt (now (file .exit)) (now (ram .exit)) r 4 ⌝ }
+{
+    let spot = operand::locate(file, to);
+    let v = registers::base(file, seg);
+    operand::deposit(true, file, ram, rom, spot, v)
+}
+
+// MOV DS0 or DS1,reg16,mem32
+fn load_pointer(
+    file: &mut [u16; 14],
+    ram: &mut [u8],
+    rom: &[u8],
+    seg: u8,
+    reg: u8,
+    from: Address,
+) -> Bus
+    ensures { λ r. ⌜ OnMemory Unit (tree.loadPointer seg reg from) (now (file .entry)) (now (ram .entry)) (now (rom .entry)) tt (now (file .exit)) (now (ram .exit)) r 4 ⌝ }
+{
+    let p = operand::pair_at(file, ram, rom, from);
+    registers::set_reg(true, file, reg, p.low);
+    registers::set_base(file, seg, p.high);
+    p.bus
+}
+
+// MOV AH,PSW
+fn ah_from_psw(file: &mut [u16; 14], ram: &mut [u8], rom: &[u8]) -> Bus
+    ensures { λ r. ⌜ OnMemory Unit (tree.ahFromPsw) (now (file .entry)) (now (ram .entry)) (now (rom .entry)) tt (now (file .exit)) (now (ram .exit)) r 4 ⌝ }
+{
+    let x = file[PSW] % 256;
+    registers::set_reg(false, file, 4, x);
+    Bus { cycles: 0 }
+}
+
+// MOV PSW,AH
+fn psw_from_ah(file: &mut [u16; 14], ram: &mut [u8], rom: &[u8]) -> Bus
+    ensures { λ r. ⌜ OnMemory Unit (tree.pswFromAh) (now (file .entry)) (now (ram .entry)) (now (rom .entry)) tt (now (file .exit)) (now (ram .exit)) r 4 ⌝ }
+{
+    let ah = registers::reg(false, file, 4);
+    file[PSW] = psw::from_ah(ah, file[PSW]);
+    Bus { cycles: 0 }
+}
+
+fn ldea(file: &mut [u16; 14], ram: &mut [u8], rom: &[u8], reg: u8, from: Address) -> Bus
+    ensures { λ r. ⌜ OnMemory Unit (tree.ldea reg from) (now (file .entry)) (now (ram .entry)) (now (rom .entry)) tt (now (file .exit)) (now (ram .exit)) r 4 ⌝ }
+{
+    let o = operand::offset(file, from);
+    registers::set_reg(true, file, reg, o);
+    Bus { cycles: 0 }
+}
+
+fn trans(file: &mut [u16; 14], ram: &mut [u8], rom: &[u8], seg: u8) -> Bus
+    ensures { λ r. ⌜ OnMemory Unit (tree.trans seg) (now (file .entry)) (now (ram .entry)) (now (rom .entry)) tt (now (file .exit)) (now (ram .exit)) r 4 ⌝ }
+{
+    let g = registers::base(file, seg);
+    let o = word::plus16(file[BW], file[AW] % 256);
+    let v = memory::load(false, ram, rom, g, o);
+    registers::set_reg(false, file, 0, v.value);
+    v.bus
+}
+
+fn xch(file: &mut [u16; 14], ram: &mut [u8], rom: &[u8], word: bool, reg: u8, with: Place) -> Bus
+    ensures { λ r. ⌜ OnMemory Unit (tree.xch word reg with) (now (file .entry)) (now (ram .entry)) (now (rom .entry)) tt (now (file .exit)) (now (ram .exit)) r 4 ⌝ }
+{
+    let spot = operand::locate(file, with);
+    let x = operand::fetch(word, file, ram, rom, spot);
+    let y = registers::reg(word, file, reg);
+    let b = operand::deposit(word, file, ram, rom, spot, y);
+    registers::set_reg(word, file, reg, x.value);
+    Bus {
+        cycles: x.bus.cycles + b.cycles,
+    }
+}
+
+pub fn transfer(file: &mut [u16; 14], ram: &mut [u8], rom: &[u8], i: Transfer) -> Bus
+    ensures { λ r. ⌜ OnMemory Unit (tree.transfer i) (now (file .entry)) (now (ram .entry)) (now (rom .entry)) tt (now (file .exit)) (now (ram .exit)) r 4 ⌝ }
+{
+    match i {
+        Transfer::Mov { word, to, from } => mov(file, ram, rom, word, to, from),
+        Transfer::LoadAcc { word, from } => load_acc(file, ram, rom, word, from),
+        Transfer::StoreAcc { word, to } => store_acc(file, ram, rom, word, to),
+        Transfer::ToSegment { seg, from } => to_segment(file, ram, rom, seg, from),
+        Transfer::FromSegment { to, seg } => from_segment(file, ram, rom, to, seg),
+        Transfer::LoadPointer { seg, reg, from } => load_pointer(file, ram, rom, seg, reg, from),
+        Transfer::AhFromPsw => ah_from_psw(file, ram, rom),
+        Transfer::PswFromAh => psw_from_ah(file, ram, rom),
+        Transfer::Ldea { reg, from } => ldea(file, ram, rom, reg, from),
+        Transfer::Trans { seg } => trans(file, ram, rom, seg),
+        Transfer::Xch { word, reg, with } => xch(file, ram, rom, word, reg, with),
+    }
+}
