@@ -1,0 +1,8 @@
+//! Case streams: made, answered and compared.
+
+pub mod answer;
+pub mod case;
+pub mod diff;
+pub mod generate;
+pub mod names;
+pub mod result;

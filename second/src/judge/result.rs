@@ -1,0 +1,129 @@
+//! The bytes that answer a case.
+
+use crate::judge::case::{double_word_at, registers_in_order, word_at, Call};
+use crate::state::State;
+
+const CALL_LENGTH: usize = 58;
+const READING_LENGTH: usize = 17;
+
+const REGISTER_NAMES: [&str; 14] = [
+    "AW", "CW", "DW", "BW", "SP", "BP", "IX", "IY", "PS", "SS", "DS0", "DS1", "PC", "PSW",
+];
+
+/// How many bytes answer a call.
+pub fn length_for(call: Call) -> usize {
+    match call {
+        Call::LogReading => READING_LENGTH,
+        _ => CALL_LENGTH,
+    }
+}
+
+/// What a step, run, interrupt or reset answered.
+pub struct CallResult<'a> {
+    pub answer: u8,
+    pub steps: u32,
+    pub bus_cycles: u32,
+    pub state: &'a State,
+    pub ram: &'a [u8],
+    pub log: &'a [u8],
+}
+
+impl CallResult<'_> {
+    pub fn bytes(&self) -> Vec<u8> {
+        let mut bytes = vec![self.answer, u8::from(self.state.halted)];
+        bytes.extend(self.steps.to_le_bytes());
+        bytes.extend(self.bus_cycles.to_le_bytes());
+        for word in registers_in_order(self.state) {
+            bytes.extend(word.to_le_bytes());
+        }
+        for number in [
+            self.state.tape_place,
+            self.state.log_place,
+            self.state.count,
+            sum(self.ram),
+            sum(self.log),
+        ] {
+            bytes.extend(number.to_le_bytes());
+        }
+        bytes
+    }
+}
+
+/// FNV-1a over 32 bits.
+pub fn sum(bytes: &[u8]) -> u32 {
+    bytes.iter().fold(2_166_136_261, |sum, &byte| {
+        (sum ^ u32::from(byte)).wrapping_mul(16_777_619)
+    })
+}
+
+/// One named value of a result, for people to read.
+#[derive(Debug, PartialEq, Eq)]
+pub struct Field {
+    pub name: &'static str,
+    pub value: Value,
+}
+
+#[derive(Clone, Copy, Debug, PartialEq, Eq)]
+pub enum Value {
+    Decimal(u32),
+    Register(u16),
+    Sum(u32),
+}
+
+/// The fields of a result whose length is right.
+pub fn fields(call: Call, bytes: &[u8]) -> Vec<Field> {
+    match call {
+        Call::LogReading => reading_fields(bytes),
+        _ => call_fields(bytes),
+    }
+}
+
+fn call_fields(bytes: &[u8]) -> Vec<Field> {
+    let decimal = |name, offset| Field {
+        name,
+        value: Value::Decimal(double_word_at(bytes, offset)),
+    };
+    let sum = |name, offset| Field {
+        name,
+        value: Value::Sum(double_word_at(bytes, offset)),
+    };
+    let byte = |name, offset: usize| Field {
+        name,
+        value: Value::Decimal(u32::from(bytes[offset])),
+    };
+    let mut fields = vec![
+        byte("the answer", 0),
+        byte("the halted mark", 1),
+        decimal("the steps done", 2),
+        decimal("the bus cycles", 6),
+    ];
+    for (index, name) in REGISTER_NAMES.into_iter().enumerate() {
+        let value = Value::Register(word_at(bytes, 10 + 2 * index));
+        fields.push(Field { name, value });
+    }
+    fields.extend([
+        decimal("the tape place", 38),
+        decimal("the log place", 42),
+        decimal("the count", 46),
+        sum("the sum of RAM", 50),
+        sum("the sum of the log", 54),
+    ]);
+    fields
+}
+
+fn reading_fields(bytes: &[u8]) -> Vec<Field> {
+    let decimal = |name, offset| Field {
+        name,
+        value: Value::Decimal(double_word_at(bytes, offset)),
+    };
+    vec![
+        Field {
+            name: "the kind",
+            value: Value::Decimal(u32::from(bytes[0])),
+        },
+        decimal("the gap", 1),
+        decimal("the key", 5),
+        decimal("the value", 9),
+        decimal("the place after", 13),
+    ]
+}

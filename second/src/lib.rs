@@ -1,0 +1,14 @@
+//! An interpreter of the V30's native instructions, written apart from the proved engine to judge it.
+
+#![forbid(unsafe_code)]
+
+mod execute;
+pub mod judge;
+pub mod listing;
+pub mod machine;
+pub mod memory;
+mod operand;
+pub mod portlog;
+pub mod refusal;
+pub mod state;
+mod width;

@@ -1,0 +1,19 @@
+//! Tests computed by hand from the papers.
+
+mod arithmetic;
+mod bench;
+mod bits;
+mod blocks;
+mod branches;
+mod decimal;
+mod log;
+mod memory;
+mod ports;
+mod prefixes;
+mod refusals;
+mod shifts;
+mod small_table;
+mod stack;
+mod stream;
+mod transfers;
+mod traps;

@@ -1,0 +1,290 @@
+//! Case streams: their bytes, their answers and the words of a mismatch.
+
+use second::judge::answer::{answer, answer_stream};
+use second::judge::case::{Call, Case, Lent, Patch};
+use second::judge::diff::{diff, Answers};
+use second::judge::generate::encodings::{has_operands, is_in, walk, LENGTH_OF_WALK};
+use second::judge::generate::{case, generate};
+use second::judge::names::name;
+use second::judge::result::sum;
+use second::state::*;
+use std::collections::HashSet;
+
+fn step_of(code: &[u8]) -> Case {
+    let mut state = State::after_reset();
+    state.segment[PS] = 0;
+    let patches = (0u32..).zip(code).map(|(index, &value)| Patch {
+        lent: Lent::Ram,
+        index,
+        value,
+    });
+    Case {
+        call: Call::Step,
+        state,
+        may_be_masked: false,
+        vector: 0,
+        budget: 0,
+        ram_length: 16,
+        rom_length: 0,
+        log_length: 4,
+        fill: 0x90,
+        patches: patches.collect(),
+        tape: vec![0xAB],
+    }
+}
+
+fn bytes_of(case: &Case) -> Vec<u8> {
+    let mut bytes = Vec::new();
+    case.write(&mut bytes).expect("a vector takes all bytes");
+    bytes
+}
+
+#[test]
+fn a_case_is_laid_out_as_the_table_says() {
+    let mut case = step_of(&[0x40]);
+    case.state.general = [0x0101, 2, 3, 4, 5, 6, 7, 8];
+    case.state.segment = [0x0C, 0x09, 0x0A, 0x0B];
+    case.state.pc = 0x0D;
+    case.state.tape_place = 1;
+    case.state.log_place = 2;
+    case.state.count = 0x12345;
+    case.budget = 0x1234;
+    let bytes = bytes_of(&case);
+    let mut expected = vec![0, 0, 0, 0, 0x34, 0x12];
+    expected.extend([1, 1, 2, 0, 3, 0, 4, 0, 5, 0, 6, 0, 7, 0, 8, 0]);
+    expected.extend([9, 0, 10, 0, 11, 0, 12, 0, 13, 0, 0x02, 0xF0]);
+    expected.extend([1, 0, 0, 0, 2, 0, 0, 0, 0x45, 0x23, 0x01, 0]);
+    expected.extend([16, 0, 0, 0, 0, 0, 0, 0, 1, 0, 4, 0, 1, 0, 0x90, 0, 0, 0]);
+    expected.extend([0, 0, 0, 0, 0, 0x40, 0xAB]);
+    assert_eq!(bytes, expected);
+    assert_eq!(Case::read(&mut &bytes[..]).expect("a whole case"), case);
+}
+
+#[test]
+fn an_answer_is_laid_out_as_the_table_says() {
+    let bytes = answer(&step_of(&[0x50]));
+    let mut expected = vec![0, 0, 1, 0, 0, 0, 1, 0, 0, 0];
+    expected.extend([0, 0, 0, 0, 0, 0, 0, 0, 0xFE, 0xFF, 0, 0, 0, 0, 0, 0]);
+    expected.extend([0, 0, 0, 0, 0, 0, 0, 0, 1, 0, 0x02, 0xF0]);
+    expected.extend([0, 0, 0, 0, 0, 0, 0, 0, 1, 0, 0, 0]);
+    let mut ram = [0x90; 16];
+    ram[0] = 0x50;
+    expected.extend(sum(&ram).to_le_bytes());
+    expected.extend(sum(&[0x90; 4]).to_le_bytes());
+    assert_eq!(bytes, expected);
+}
+
+#[test]
+fn sums_are_fnv_1a() {
+    assert_eq!(sum(b""), 0x811C_9DC5);
+    assert_eq!(sum(b"a"), 0xE40C_292C);
+    assert_eq!(sum(b"foobar"), 0xBF9C_F968);
+}
+
+#[test]
+fn log_readings_answer_with_seventeen_bytes() {
+    let mut case = step_of(&[]);
+    case.call = Call::LogReading;
+    case.fill = 0x01;
+    case.state.log_place = 1;
+    assert_eq!(
+        answer(&case),
+        [0, 1, 0, 0, 0, 1, 0, 0, 0, 1, 0, 0, 0, 4, 0, 0, 0]
+    );
+    case.state.log_place = 2;
+    assert_eq!(
+        answer(&case),
+        [9, 0, 0, 0, 0, 0, 0, 0, 0, 0, 0, 0, 0, 2, 0, 0, 0]
+    );
+    case.state.log_place = 4;
+    assert_eq!(
+        answer(&case),
+        [1, 0, 0, 0, 0, 0, 0, 0, 0, 0, 0, 0, 0, 0, 0, 0, 0]
+    );
+    case.state.log_place = 5;
+    assert_eq!(
+        answer(&case),
+        [2, 0, 0, 0, 0, 0, 0, 0, 0, 0, 0, 0, 0, 0, 0, 0, 0]
+    );
+}
+
+fn answers_of(stream: &[u8]) -> Vec<u8> {
+    let mut results = Vec::new();
+    answer_stream(&mut &stream[..], &mut results).expect("memory does not fail");
+    results
+}
+
+#[test]
+fn a_cut_case_ends_the_stream_without_a_result() {
+    let whole = bytes_of(&step_of(&[0x40]));
+    let twice = whole.repeat(2);
+    for cut in 1..whole.len() {
+        assert_eq!(answers_of(&twice[..twice.len() - cut]).len(), 58);
+    }
+    assert_eq!(answers_of(&twice).len(), 116);
+}
+
+#[test]
+fn what_does_not_fit_ends_the_stream() {
+    let good = bytes_of(&step_of(&[0x40]));
+    // RAM, ROM, tape, log and patches one over their limits; call 5
+    for (offset, bytes) in [
+        (46, &[0x02, 0x00, 0x10, 0x00][..]),
+        (50, &[0x02, 0x00, 0x10, 0x00]),
+        (54, &[0x01, 0x10]),
+        (56, &[0x01, 0x10]),
+        (58, &[0x01, 0x10]),
+        (0, &[5]),
+    ] {
+        let mut stream = good.repeat(2);
+        let start = good.len() + offset;
+        stream[start..start + bytes.len()].copy_from_slice(bytes);
+        stream.extend(vec![0; 100_000]);
+        assert_eq!(answers_of(&stream).len(), 58);
+    }
+}
+
+#[test]
+fn patches_past_their_buffer_are_skipped() {
+    let mut case = step_of(&[0x40]);
+    let plain = answer(&case);
+    for lent in [Lent::Ram, Lent::Rom, Lent::Log] {
+        let index = if lent == Lent::Log { 4 } else { 16 };
+        let value = 0xEE;
+        case.patches.push(Patch { lent, index, value });
+    }
+    assert_eq!(answer(&case), plain);
+}
+
+#[test]
+fn a_seed_always_makes_the_same_stream() {
+    let stream = |seed, count| {
+        let mut bytes = Vec::new();
+        generate(seed, count, &mut bytes).expect("memory does not fail");
+        bytes
+    };
+    let long = stream(7, 300);
+    assert_eq!(stream(7, 300), long);
+    assert!(long.starts_with(&stream(7, 100)));
+    assert_ne!(stream(8, 100), stream(7, 100));
+}
+
+#[test]
+fn generated_cases_survive_writing_and_reading() {
+    for number in 0..2_000 {
+        let case = case(3, number);
+        let bytes = bytes_of(&case);
+        assert_eq!(Case::read(&mut &bytes[..]).expect("a whole case"), case);
+    }
+}
+
+#[test]
+fn the_walk_passes_every_opcode() {
+    let passed: HashSet<Vec<u8>> = (0..LENGTH_OF_WALK).map(walk).collect();
+    assert_eq!(passed.len() as u64, LENGTH_OF_WALK);
+    for first in 0..=255u8 {
+        assert!(passed.contains(&vec![first]));
+        assert!(passed.contains(&vec![0x0F, first]));
+        for operands in 0..=255u8 {
+            let wanted = has_operands(first);
+            assert_eq!(
+                passed.contains(&vec![first, operands]),
+                wanted || first == 0x0F
+            );
+        }
+    }
+}
+
+#[test]
+fn generated_streams_reach_every_call_and_answer() {
+    let mut reached = HashSet::new();
+    for number in 0..6_000 {
+        let case = case(11, number);
+        reached.insert((case.call as u8, answer(&case)[0]));
+    }
+    let step = [0, 1, 2, 3, 4, 5, 6, 8].map(|number| (0, number));
+    let run = [0, 1, 2, 3, 5, 6, 8].map(|number| (1, number));
+    let interrupt = [0, 1, 2, 7].map(|number| (2, number));
+    let reading = [0, 1, 2, 9].map(|number| (4, number));
+    for wanted in step.into_iter().chain(run).chain(interrupt).chain(reading) {
+        assert!(reached.contains(&wanted), "{wanted:?}");
+    }
+    assert!(reached.contains(&(3, 0)));
+}
+
+#[test]
+fn names_know_how_long_instructions_are() {
+    let moves_pc = |opcode: &[u8]| match opcode[0] {
+        0x70..=0x7F | 0x9A | 0xC2 | 0xC3 | 0xCA..=0xCF | 0xE0..=0xE3 | 0xE8..=0xEB => true,
+        0x62 => true,
+        0xF6 | 0xF7 => opcode[1] >> 3 & 7 >= 6,
+        0xFF => (2..=5).contains(&(opcode[1] >> 3 & 7)),
+        _ => false,
+    };
+    for opcode in (0..LENGTH_OF_WALK).map(walk) {
+        let whole = opcode.len() > 1 || !has_operands(opcode[0]);
+        if !whole || !is_in(&opcode) || moves_pc(&opcode) {
+            continue;
+        }
+        let base = [0x0A; 6];
+        let code = [&opcode[..], &base].concat();
+        let mut case = step_of(&code);
+        case.log_length = 9;
+        case.tape = vec![1, 2];
+        let after = answer(&case);
+        let pc = usize::from(u16::from_le_bytes([after[34], after[35]]));
+        assert_eq!(after[0], 0, "{opcode:02X?}");
+        assert_eq!(pc, name(&code).length, "{opcode:02X?}");
+    }
+}
+
+fn words_of(cases: &[u8], left: &[u8], right: &[u8]) -> (String, u64) {
+    let mut text = Vec::new();
+    let left = Answers {
+        name: "A",
+        bytes: left,
+    };
+    let right = Answers {
+        name: "B",
+        bytes: right,
+    };
+    let summary = diff(cases, left, right, &mut text).expect("memory does not fail");
+    (String::from_utf8(text).expect("words"), summary.mismatched)
+}
+
+#[test]
+fn mismatches_are_told_in_words() {
+    let cases = bytes_of(&step_of(&[0xF3, 0x05, 0x34, 0x12])).repeat(2);
+    let good = answers_of(&cases);
+    let (text, mismatched) = words_of(&cases, &good, &good);
+    assert_eq!(
+        (&text[..], mismatched),
+        ("2 cases compared, 0 mismatched\n", 0)
+    );
+    let mut bad = good.clone();
+    bad[58 + 10] ^= 0xFF;
+    bad[58 + 36] ^= 0x41;
+    let (text, mismatched) = words_of(&cases, &good, &bad);
+    assert_eq!(mismatched, 1);
+    let lines: Vec<&str> = text.lines().collect();
+    let what = "case 1: step of F3 05 34 12 (REP ADD)";
+    assert_eq!(lines[0], format!("{what}: AW is 1234h by A, 12CBh by B"));
+    assert_eq!(
+        lines[1],
+        format!("{what}: PSW is F002h by A, F043h by B (differing: CY Z)")
+    );
+    assert_eq!(lines[2], "2 cases compared, 1 mismatched");
+}
+
+#[test]
+fn missing_and_spare_answers_are_told() {
+    let cases = bytes_of(&step_of(&[0x40])).repeat(2);
+    let good = answers_of(&cases);
+    let (text, mismatched) = words_of(&cases, &good, &good[..100]);
+    assert!(text.contains("case 1: B stopped before this case"));
+    assert!(mismatched > 0);
+    let spare = [&good[..], &[0]].concat();
+    let (text, mismatched) = words_of(&cases, &spare, &good);
+    assert!(text.contains("A wrote 1 bytes past the compared cases"));
+    assert_eq!(mismatched, 1);
+}
