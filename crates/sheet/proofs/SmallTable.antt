@@ -20,7 +20,7 @@ use Rattle.sheet.specs.Traps.{push, save, trap}
 use Rattle.sheet.specs.Arithmetic.{resulting, sum, operate, conclude, two}
 use Rattle.sheet.specs.Multiply.{stands, bitsOf, quoted, signedQuotient, dividend, setQuotient, divided, div}
 use Rattle.sheet.specs.Shift.{comesIn, toLeft, onePlace, manyPlaces, shifted, turned, shiftMany, carryIn, finish, shiftBy, shift}
-use Rattle.sheet.specs.Decimal.{moved, comesOut, adjusted, plain, digits, adj4, link, string}
+use Rattle.sheet.specs.Decimal.{moved, comesOut, adjusted, plain, digits, packedResult, adj4, link, string}
 use Rattle.sheet.specs.Fields.{replaced, lengthOf, advance, insertInto, ins}
 use Rattle.sheet.specs.Stack.{pushRegister, pushPlace, stack}
 use Rattle.sheet.specs.Execute.{calculate, untrapped, multiply, convert, decimal, field, operation, execute}
@@ -95,7 +95,7 @@ pub record SmallTable : Type 0 where
   pub number : groupsOf 3 300 ≡ 0xac ∷ 0x02 ∷ []
 
 pub small-table : SmallTable
-unfolding ones wrapOf signOf evenOf extend signedOf bits32 settled readReg regIndex regWord byteAt readMem writeMem busCycles groupsOf act._>>=_ loop runBy tally formAt regValue setReg locate fetch deposit valueAt sourceValue amountOf push save trap resulting sum operate conclude two stands bitsOf quoted signedQuotient dividend setQuotient divided div comesIn toLeft onePlace manyPlaces shifted turned shiftMany carryIn finish shiftBy shift moved comesOut adjusted plain digits adj4 link string replaced lengthOf advance insertInto Rattle.sheet.specs.Fields.ins pushRegister pushPlace stack calculate untrapped multiply convert decimal field operation execute reading._>>=_ scan word immediate allow prefixOf formed address inMemory place lookUp fieldGiven withAcc withPlace withShift shiftGroup groupF6 afterPrefix prefixed instruction fits sound singleStep stepping counted decoded awake stepBy step
+unfolding ones wrapOf signOf evenOf extend signedOf bits32 settled readReg regIndex regWord byteAt readMem writeMem busCycles groupsOf act._>>=_ loop runBy tally formAt regValue setReg locate fetch deposit valueAt sourceValue amountOf push save trap resulting sum operate conclude two stands bitsOf quoted signedQuotient dividend setQuotient divided div comesIn toLeft onePlace manyPlaces shifted turned shiftMany carryIn finish shiftBy shift moved comesOut adjusted plain digits packedResult adj4 link string replaced lengthOf advance insertInto Rattle.sheet.specs.Fields.ins pushRegister pushPlace stack calculate untrapped multiply convert decimal field operation execute reading._>>=_ scan word immediate allow prefixOf formed address inMemory place lookUp fieldGiven withAcc withPlace withShift shiftGroup groupF6 afterPrefix prefixed instruction fits sound singleStep stepping counted decoded awake stepBy step
 small-table = record {
   adj4a = refl;
   sub4s = refl;

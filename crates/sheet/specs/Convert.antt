@@ -7,13 +7,16 @@ use Rattle.sheet.specs.Psw.{unknown}
 use Rattle.sheet.specs.Registers.{AW, DW, AL, AH}
 use Rattle.sheet.specs.Act.{Act, _>>=_, _>>_, registers, _≔_, affect}
 use Rattle.sheet.specs.Operand.{regValue}
-use Rattle.sheet.specs.Arithmetic.{resulting}
+use Rattle.sheet.specs.Arithmetic.{Result, resulting}
 
--- P, S and Z by AL
+-- AH and AL, with P, S and Z by AL
+unfoldable pub converted : ℕ → ℕ → Result
+converted ah al = record { value = ah * 256 + al; column = resulting false al unknown unknown unknown .column }
+
 unfoldable pub convert : ℕ → ℕ → Act Unit
 convert ah al = do
-  affect (resulting false al unknown unknown unknown .column)
-  AW ≔ ah * 256 + al
+  affect (converted ah al .column)
+  AW ≔ converted ah al .value
 
 unfoldable pub cvtbd : Act Unit
 cvtbd = do

@@ -10,7 +10,7 @@ use Rattle.sheet.specs.Psw.{AC, CY, bit, unknown, becomes, columns}
 use Rattle.sheet.specs.Registers.{AW, IX, IY, DS1, AL, CL, AH, File, segment, readReg}
 use Rattle.sheet.specs.Act.{Act, pure, _>>=_, _>>_, registers, _≔_, flag, affect, peek, poke, loop}
 use Rattle.sheet.specs.Operand.{locate, fetch, deposit, regValue, setReg}
-use Rattle.sheet.specs.Arithmetic.{resulting}
+use Rattle.sheet.specs.Arithmetic.{Result, resulting}
 
 -- ---- one byte
 
@@ -47,13 +47,18 @@ digits sub a b c =
 
 -- ---- ADJ4A and ADJ4S (sub)
 
+unfoldable pub packedResult : Bool → ℕ → Bool → Bool → Result
+packedResult sub x ac cy =
+    let d : Digits = adjusted sub x ac cy in
+    resulting false (d .value) (becomes (d .ac)) (becomes (d .cy)) unknown
+
 unfoldable pub adj4 : Bool → Act Unit
 adj4 sub = do
   x ← regValue false AL
   ac ← flag AC
   cy ← flag CY
-  affect (resulting false (adjusted sub x ac cy .value) (becomes (adjusted sub x ac cy .ac)) (becomes (adjusted sub x ac cy .cy)) unknown .column)
-  setReg false AL (adjusted sub x ac cy .value)
+  affect (packedResult sub x ac cy .column)
+  setReg false AL (packedResult sub x ac cy .value)
 
 -- ---- ADJBA and ADJBS (sub)
 
@@ -62,13 +67,17 @@ unfoldable pub unpacked : Bool → Bool → ℕ → ℕ
 unpacked sub low aw =
     moved sub (aw / 256) (bit low) * 256 + moved sub (aw % 256) (pick low 6 0) % 16
 
+unfoldable pub unpackedResult : Bool → ℕ → Bool → Result
+unpackedResult sub aw ac =
+    let low : Bool = ltb 9 (aw % 16) || ac in
+    record { value = unpacked sub low aw; column = columns (becomes low) (becomes low) unknown unknown unknown unknown }
+
 unfoldable pub adjb : Bool → Act Unit
 adjb sub = do
   r ← registers
   ac ← flag AC
-  let low : Bool = ltb 9 (r AW % 16) || ac
-  affect (columns (becomes low) (becomes low) unknown unknown unknown unknown)
-  AW ≔ unpacked sub low (r AW)
+  affect (unpackedResult sub (r AW) ac .column)
+  AW ≔ unpackedResult sub (r AW) ac .value
 
 -- ---- strings
 

@@ -1,0 +1,23 @@
+-- `convert::unpacked` meets its contract.
+use Rattle.sheet.specs.Decimal.{unpacked}
+use borrow.Author.Needs.{needs}
+use Rattle.convert.proofs.unpacked.Statement.{statement}
+use Rattle.convert.proofs.unpacked.Tie as tie
+
+returns : tie.Need-returns
+unfolding unpacked
+returns c =
+    let o = c .before in
+    rw (c .moved2 .ensures .0, o .only .ensures .0, o .before .moved .ensures .0, o .before .before .digit .ensures .0)
+
+pub unpacked-spec : {M : Type 1} → statement M
+unpacked-spec =
+    tie.close
+    (tie.spec
+    (λ c κs. search needs)
+    (λ c κs. search needs)
+    (λ c κs. search needs)
+    (λ c κs. search needs)
+    (λ c. search needs)
+    (λ c. search needs)
+    returns)

@@ -1,0 +1,80 @@
+// ADJ4A, ADJ4S, ADJBA, ADJBS, CVTBD, CVTDB, CVTBW, CVTWL on AL or AW and PSW. No public function has a precondition.
+ghost use mathlib.Core.Path.{_≡_};
+ghost use Prim.Native.Nat.{_+_, _*_, _/_, _%_, _≤_};
+ghost use lib.Dec.{ltb};
+ghost use Rattle.sheet.specs.Width.{extend, pick};
+ghost use Rattle.sheet.specs.Psw.{AC, CY, flagOf};
+ghost use Rattle.sheet.specs.Contract.{flagged};
+ghost use Rattle.sheet.specs.Decimal.{packedResult, unpacked, unpackedResult};
+ghost use Rattle.sheet.specs.Convert.{converted};
+use sheet::Flagged;
+
+// ADJ4A, and ADJ4S where `sub`, of AL.
+pub fn adj4(sub: bool, al: u16, psw: u16) -> Flagged
+    ensures { λ r. ⌜ r ≡ flagged (packedResult sub al (flagOf psw AC) (flagOf psw CY)) psw ⌝ }
+{
+    let d = decimal::adjusted(sub, al, flags::ac(psw), flags::cy(psw));
+    psw::result(false, d.value, d.ac, d.cy, flags::v(psw), psw)
+}
+
+// AW once a digit is adjusted.
+fn unpacked(sub: bool, low: bool, aw: u16) -> u16
+    ensures { λ r. ⌜ r ≡ unpacked sub low aw ⌝ }
+{
+    let high = decimal::moved(sub, aw / 256, word::digit(low));
+    let digits = decimal::moved(sub, aw % 256, word::only(low, 6));
+    high * 256 + digits % 16
+}
+
+// ADJBA, and ADJBS where `sub`, of AW.
+pub fn adjb(sub: bool, aw: u16, psw: u16) -> Flagged
+    ensures { λ r. ⌜ r ≡ flagged (unpackedResult sub aw (flagOf psw AC)) psw ⌝ }
+{
+    let low = (9 < aw % 16) | flags::ac(psw);
+    let f = flags::unpack(psw);
+    Flagged {
+        value: unpacked(sub, low, aw),
+        psw: psw::affect(low, low, f.v, f.p, f.s, f.z, psw),
+    }
+}
+
+// AH and AL, with P, S and Z by AL.
+fn converted(ah: u16, al: u16, psw: u16) -> Flagged
+    requires { ⌜ (ah ≤ 255) × (al ≤ 255) ⌝ }
+    ensures { λ r. ⌜ r ≡ flagged (converted ah al) psw ⌝ }
+{
+    let f = flags::unpack(psw);
+    let r = psw::result(false, al, f.ac, f.cy, f.v, psw);
+    Flagged {
+        value: ah * 256 + al,
+        psw: r.psw,
+    }
+}
+
+// CVTBD of AL.
+pub fn cvtbd(aw: u16, psw: u16) -> Flagged
+    ensures { λ r. ⌜ r ≡ flagged (converted (aw % 256 / 10) (aw % 256 % 10)) psw ⌝ }
+{
+    converted(aw % 256 / 10, aw % 256 % 10, psw)
+}
+
+// CVTDB of AH and AL.
+pub fn cvtdb(aw: u16, psw: u16) -> Flagged
+    ensures { λ r. ⌜ r ≡ flagged (converted 0 ((aw / 256 * 10 + aw % 256) % 256)) psw ⌝ }
+{
+    converted(0, (aw / 256 * 10 + aw % 256) % 256, psw)
+}
+
+// AW after CVTBW.
+pub fn cvtbw(aw: u16) -> u16
+    ensures { λ r. ⌜ r ≡ extend (aw % 256) ⌝ }
+{
+    word::sign_extend((aw % 256) as u8)
+}
+
+// DW after CVTWL.
+pub fn cvtwl(aw: u16) -> u16
+    ensures { λ r. ⌜ r ≡ pick (ltb aw 32768) 0 65535 ⌝ }
+{
+    if aw < 32768 { 0 } else { 65535 }
+}
