@@ -1,18 +1,17 @@
 -- One byte of a decimal string, on valid digits: it is the decimal sum or difference modulo 100, and CY is its carry or borrow.
-use mathlib.Core.Path.{_≡_, refl, sym, ap, _∙_}
+use mathlib.Core.Path.{_≡_, refl, ap, _∙_}
 use mathlib.Core.Bool.{Bool, true, false, _||_}
 use Prim.Native.Nat.{ℕ, _+_, _-_, _*_, _/_, _%_, _≤_, _<_}
 use native.Mathlib.Omega.{arith}
-use borrow.Author.Tests.{ltb-true, ltb-false, leb-true, leb-false, lt-ltb, le-ltb, le-leb, lt-leb}
+use borrow.Author.Tests.{ltb-true, ltb-false, leb-true, leb-false, lt-ltb, le-ltb, lt-leb}
 use lib.Dec.{ltb, leb, lit≤}
 use Rattle.sheet.specs.declared.Digits.{Digits}
-use Rattle.sheet.specs.Width.{pick, add16}
+use Rattle.sheet.specs.Width.{pick}
 use Rattle.sheet.specs.Psw.{bit}
-use Rattle.sheet.specs.Registers.{regWord}
-use Rattle.sheet.specs.Operand.{setReg}
 use Rattle.sheet.specs.Decimal.{adjusted, comesOut, digits, moved, plain}
 
-abbrev byteOf : ℕ → Bool → Bool → Digits
+-- a byte with AC and CY
+abbrev pub byteOf : ℕ → Bool → Bool → Digits
 byteOf x ac cy = record { value = x; ac = ac; cy = cy }
 
 -- a number below 100 as two digits
@@ -196,12 +195,3 @@ module _ (m n : ℕ) (c : Bool) (hm : m < 100) (hn : n < 100) where
 -- the league's own case: 28 from 06 is 78, with a borrow
 pub six-less-28 : digits true 0x06 0x28 false ≡ byteOf 0x78 true true
 six-less-28 = decimal-borrow 6 28 false (lit≤ tt) (lit≤ tt)
-
--- ---- ROL4: a byte register takes no more of a sum that wraps than of one that does not
-
-cut : (x : ℕ) → x % 65536 % 256 ≡ x % 256
-cut x = omega arith
-
-pub set-wraps : (n a b : ℕ) → setReg false n (add16 a b) ≡ setReg false n (a + b)
-unfolding setReg regWord
-set-wraps n a b = simp (cut (a + b))

@@ -1,1 +1,3 @@
 pub mod DecimalLaws
+pub mod PlainLaws
+pub mod RotateLaws

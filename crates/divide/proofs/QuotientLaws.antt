@@ -10,8 +10,7 @@ use lib.Dec.{eqb, ltb}
 use lib.IntN.{ℤ, pos, negsuc, negℤ, natAbs, _+ℤ_, _-ℤ_, _*ℤ_, negℤ-+ℤ}
 use lib.Signed.{mag, quotZ, remZ, ltZ, leZ}
 use Rattle.sheet.specs.Width.{modOf, halfOf, wrapOf, signedOf}
-use Rattle.sheet.specs.declared.Divided.{Divided}
-use Rattle.sheet.specs.declared.Divided.the-variants.{Quotient, Trap}
+use Rattle.sheet.specs.declared.Divided.the-variants.{Quotient}
 use Rattle.sheet.specs.Multiply.{bitsOf, quoted, signedQuotient, spanOf, stands, unsignedQuotient}
 use Rattle.word.proofs.WidthLaws.{mod-half, wrap-lt}
 use Rattle.signed.proofs.SignedLaws.{signed-nz}

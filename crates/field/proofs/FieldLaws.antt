@@ -1,9 +1,9 @@
 -- Bit fields: what is put in is what is taken out, the other bits are kept, and a word stays a word.
-use mathlib.Core.Path.{_≡_, refl, sym, ap, _∙_}
-use Prim.Native.Nat.{ℕ, zero, suc, _+_, _-_, _*_, _/_, _%_, _^_, _≤_, _<_}
+use mathlib.Core.Path.{_≡_, sym, ap, _∙_}
+use Prim.Native.Nat.{ℕ, _+_, _-_, _*_, _/_, _%_, _^_, _≤_, _<_}
 use native.Mathlib.Nat.{mod-lt, div-one, mul-le-mul-right, mod-eq-of-lt, div-eq-of-lt, add-assoc, zero-add, mul-assoc, add-mul-div-left, add-mul-mod-self-left}
 use native.Mathlib.Omega.{arith}
-use lib.Pow.{pow-pos, pow-mono, pow-add, shr-lt, high, low, mod-pow-add}
+use lib.Pow.{pow-pos, pow-add, shr-lt, high, low, mod-pow-add}
 use Rattle.sheet.specs.Fields.{replaced, fieldOf}
 
 -- the two lower parts of a word of three

@@ -1,7 +1,6 @@
 -- `convert::cvtwl` meets its contract.
 use borrow.Author.Tests.{lt-ltb, le-ltb}
 use native.Mathlib.Omega.{arith}
-use borrow.Author.Needs.{needs}
 use Rattle.convert.proofs.cvtwl.Statement.{statement}
 use Rattle.convert.proofs.cvtwl.Tie as tie
 

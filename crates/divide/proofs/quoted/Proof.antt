@@ -6,7 +6,7 @@ use mir.Syntax.{w64}
 use mir.Val.{toZ, ofZ}
 use mir.ValLaws.{toZ-ofZ}
 use borrow.Author.Needs.{needs}
-use Rattle.sheet.specs.Multiply.{bitsOf, quoted, stands}
+use Rattle.sheet.specs.Multiply.{quoted, stands}
 use Rattle.signed.proofs.SignedLaws.{passes}
 use Rattle.divide.proofs.QuotientReads.{quot-fits, rem-fits}
 use Rattle.divide.proofs.quoted.Statement.{statement}

@@ -1,5 +1,5 @@
 -- `divide::unsigned_quotient` meets its contract.
-use mathlib.Core.Path.{_≡_, sym, _∙_}
+use mathlib.Core.Path.{sym, _∙_}
 use Prim.Native.Nat.{_≤_}
 use mathlib.Core.Bool.{Bool, true, false}
 use lib.Dec.{lit≤}

@@ -1,13 +1,12 @@
 -- `multiply::signed_product` meets its contract. A signed number that goes from one call to the next is read back from its bits.
 use mathlib.Core.Path.{_≡_, _∙_}
-use Prim.Native.Nat.{_<_, _*_}
+use Prim.Native.Nat.{_*_}
 use native.Mathlib.Omega.{arith}
 use lib.IntN.{_*ℤ_}
-use lib.Signed.{mag}
 use mir.Syntax.{w64}
 use mir.Val.{toZ, ofZ}
 use borrow.Author.Needs.{needs}
-use Rattle.sheet.specs.Width.{halfOf, signedOf}
+use Rattle.sheet.specs.Width.{signedOf}
 use Rattle.sheet.specs.Multiply.{signedProduct}
 use Rattle.signed.proofs.SignedLaws.{passes, signed-lt, signed-fits}
 use Rattle.multiply.proofs.ProductLaws.{times-fits}
