@@ -29,7 +29,8 @@ use Rattle.sheet.specs.Reading.{scan, word, immediate, allow}
 use Rattle.sheet.specs.Encoding.{prefixOf, formed, address, inMemory, place, lookUp}
 use Rattle.sheet.specs.SecondByte.{fieldGiven}
 use Rattle.sheet.specs.FirstByte.{withAcc, withPlace, withShift, shiftGroup, groupF6, afterPrefix, prefixed, instruction}
-use Rattle.sheet.specs.Step.{fits, sound, singleStep, stepping, counted, decoded, awake, stepBy, step, Report, report, reportOf}
+use Rattle.sheet.specs.Step.{fits, sound, singleStep, stepping, counted, decoded, awake, stepBy, step, stepReport}
+use Rattle.sheet.specs.Contract.{report}
 
 -- AW CW DW BW SP BP IX IY DS1 PS SS DS0 PC PSW, a count of steps, and RAM; no ROM, tape or log
 abbrev machine : List ℕ → ℕ → List ℕ → World
@@ -37,7 +38,7 @@ machine file count ram = world (record { file = file; halted = false; tape = 0; 
 
 -- a step is accepted and leaves this, with so many bus cycles
 abbrev Leaves : World → World → ℕ → Type 0
-Leaves w v n = reportOf w (step w) ≡ report 0 v (record { cycles = n })
+Leaves w v n = stepReport w ≡ report 0 v (record { cycles = n })
 
 pub record SmallTable : Type 0 where
   -- ADJ4A of FBh, AC 0, CY 0: 61h, CY 1, AC 1, P 0
@@ -95,7 +96,7 @@ pub record SmallTable : Type 0 where
   pub number : groupsOf 3 300 ≡ 0xac ∷ 0x02 ∷ []
 
 pub small-table : SmallTable
-unfolding ones wrapOf signOf evenOf extend signedOf bits32 settled readReg regIndex regWord byteAt readMem writeMem busCycles groupsOf act._>>=_ loop runBy tally formAt regValue setReg locate fetch deposit valueAt sourceValue amountOf push save trap resulting sum operate conclude two stands bitsOf quoted signedQuotient dividend setQuotient divided div comesIn toLeft onePlace manyPlaces shifted turned shiftMany carryIn finish shiftBy shift moved comesOut adjusted plain digits packedResult adj4 link string replaced lengthOf advance insertInto Rattle.sheet.specs.Fields.ins pushRegister pushPlace stack calculate untrapped multiply convert decimal field operation execute reading._>>=_ scan word immediate allow prefixOf formed address inMemory place lookUp fieldGiven withAcc withPlace withShift shiftGroup groupF6 afterPrefix prefixed instruction fits sound singleStep stepping counted decoded awake stepBy step
+unfolding ones wrapOf signOf evenOf extend signedOf bits32 settled readReg regIndex regWord byteAt readMem writeMem busCycles groupsOf act._>>=_ loop runBy tally formAt regValue setReg locate fetch deposit valueAt sourceValue amountOf push save trap resulting sum operate conclude two stands bitsOf quoted signedQuotient dividend setQuotient divided div comesIn toLeft onePlace manyPlaces shifted turned shiftMany carryIn finish shiftBy shift moved comesOut adjusted plain digits packedResult adj4 link string replaced lengthOf advance insertInto Rattle.sheet.specs.Fields.ins pushRegister pushPlace stack calculate untrapped multiply convert decimal field operation execute reading._>>=_ scan word immediate allow prefixOf formed address inMemory place lookUp fieldGiven withAcc withPlace withShift shiftGroup groupF6 afterPrefix prefixed instruction fits sound singleStep stepping counted decoded awake stepBy step stepReport
 small-table = record {
   adj4a = refl;
   sub4s = refl;

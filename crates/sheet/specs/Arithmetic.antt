@@ -1,4 +1,4 @@
--- Addition, subtraction, comparison, increment, decrement, complement: results with their flag columns, and the instructions.
+-- Addition, subtraction, comparison, logic, increment, decrement, complement: results with their flag columns, and the instructions.
 use mathlib.Core.Bool.{Bool, true, false, not, _&&_, Bool·beq}
 use Prim.Native.Nat.{ℕ, _+_, _-_, _%_}
 use lib.Dec.{eqb, leb, ltb}

@@ -125,7 +125,6 @@ branch (BrFarAt at) = brFarAt at
 
 -- ---- conditions
 
--- BV, BC, BE, BNH, BN, BPE, BLT, BLE
 abbrev pub either : Flag → Flag → Act Bool
 either f g = do
   a ← flag f
@@ -144,6 +143,7 @@ lessOrEqual = do
   b ← flag Z
   pure (a || b)
 
+-- BV, BC, BE, BNH, BN, BPE, BLT, BLE
 abbrev pub conditions : List (Act Bool)
 conditions = flag OV ∷ flag CY ∷ flag Z ∷ either CY Z ∷ flag S ∷ flag P ∷ unlike S OV ∷ lessOrEqual ∷ []
 

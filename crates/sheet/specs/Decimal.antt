@@ -1,4 +1,4 @@
--- Packed decimal: ADJ4A, ADJ4S, ADJBA, ADJBS, ADD4S, SUB4S, CMP4S, ROL4, ROR4.
+-- Decimal digits: ADJ4A, ADJ4S, ADJBA, ADJBS, ADD4S, SUB4S, CMP4S, ROL4, ROR4.
 use mathlib.Core.Bool.{Bool, true, false, _&&_, _||_}
 use Prim.Native.Nat.{ℕ, _+_, _-_, _*_, _/_, _%_}
 use lib.Dec.{eqb, leb, ltb}

@@ -1,4 +1,4 @@
--- Instruction bytes: prefixes, the mod-reg-mem byte, and the tables of first and second bytes.
+-- Instruction bytes: prefixes, the mod-reg-mem byte, and how a table of codes is read.
 use Prim.Native.Nat.{ℕ, zero, suc, _+_, _-_, _*_, _/_, _%_}
 use mathlib.Core.Bool.{Bool, true, false, _&&_}
 use mathlib.Core.List.{List, [], _∷_, _++_}
@@ -90,12 +90,12 @@ withOffset p = do
 unfoldable pub address : Prefixes → (mode mem : ℕ) → Reading Address
 address p mode mem = pick (eqb mode 0 && eqb mem 6) (withOffset p) (withDisplacement p mode mem)
 
--- the operand that the byte m names: mod 11 is a register
 unfoldable pub inMemory : Prefixes → ℕ → Reading Place
 inMemory p m = do
   a ← address p (modField m) (memField m)
   got (Memory a)
 
+-- the operand that the byte m names: mod 11 is a register
 unfoldable pub place : Prefixes → ℕ → Reading Place
 place p m = pick (eqb (modField m) 3) (got (Register (memField m))) (inMemory p m)
 

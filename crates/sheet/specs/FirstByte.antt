@@ -96,7 +96,7 @@ withImmediate p n =
       v ← smallImmediate n
       got (Calculates (calculates.Two (operationAt reg) (W n) a (Immediate v))))
 
--- a shift by its reg field: the sixth is unknown
+-- a shift by its reg field: 6 is unknown
 abbrev pub shifts : List (Option Shift)
 shifts = some Rol ∷ some Ror ∷ some Rolc ∷ some Rorc ∷ some Shl ∷ some Shr ∷ none ∷ some Shra ∷ []
 
@@ -183,7 +183,7 @@ withWord k = do
   v ← word
   got (k v)
 
--- a signed 8-bit displacement
+-- a byte widened with its sign
 unfoldable pub withShort : (ℕ → Instr) → Reading Instr
 withShort k = do
   v ← signedByte

@@ -89,7 +89,7 @@ runBy u (halt b p) w = runBy u p (withState w (withHalted (w .state) b))
 abbrev pub kept : ℕ → Choice
 kept i = keeps
 
--- the machine of document 01
+-- a tree under document 01's choice
 unfoldable pub run : {A : Type 0} → Act A → World → Outcome A
 run p w = runBy kept p w
 

@@ -4,7 +4,7 @@ use mathlib.Core.List.{List, [], _++_}
 use Rattle.sheet.specs.declared.Bus.{Bus}
 use Rattle.sheet.specs.Psw.{Choice}
 use Rattle.sheet.specs.World.{World}
-use Rattle.sheet.specs.Handler.{Event, Outcome, refused, done, kept}
+use Rattle.sheet.specs.Handler.{Event, Outcome, refused, done, kept, tally}
 use Rattle.sheet.specs.Step.{checked, stepBy}
 
 -- a number, the world, the finished steps and their events
@@ -31,3 +31,10 @@ runsBy u budget w = checked w (λ n. ran n w 0 []) (stepsBy u budget w)
 
 unfoldable pub runs : ℕ → World → Ran
 runs budget w = runsBy (λ i. kept) budget w
+
+-- what a run reports: number, world, steps done and bus
+pub data RunReport : Type 0 where
+  runReport : ℕ → World → ℕ → Bus → RunReport
+
+abbrev pub ranReport : Ran → RunReport
+ranReport (ran n w k t) = runReport n w k (tally t)

@@ -5,7 +5,6 @@ use mathlib.Core.List.{List, []}
 use lib.ListN.{length, getD, replicate, set}
 use lib.Dec.{leb}
 use Rattle.sheet.specs.declared.State.{State}
-use Rattle.sheet.specs.declared.Bus.{Bus}
 use Rattle.sheet.specs.declared.Instr.{Instr}
 use Rattle.sheet.specs.Width.{pick, add16}
 use Rattle.sheet.specs.Psw.{BRK, IE, Choice, flagOf, fixedOf}
@@ -14,7 +13,8 @@ use Rattle.sheet.specs.Memory.{physical, byteAt}
 use Rattle.sheet.specs.Log.{rule, risen}
 use Rattle.sheet.specs.World.{World, withState, pswOf, withCount}
 use Rattle.sheet.specs.Act.{Act, pure, _>>=_, _>>_, flag, halted}
-use Rattle.sheet.specs.Handler.{Outcome, refused, done, runBy, kept, nothing, tally}
+use Rattle.sheet.specs.Handler.{Outcome, refused, runBy, kept}
+use Rattle.sheet.specs.Contract.{seen, Report, reportOf}
 use Rattle.sheet.specs.Reading.{Read, known, unknown, scan}
 use Rattle.sheet.specs.FirstByte.{instruction}
 use Rattle.sheet.specs.Traps.{trap}
@@ -51,12 +51,16 @@ codeByte ram rom ps pc j = byteAt ram rom (codeAt ps pc j)
 abbrev pub source : World → ℕ → ℕ
 source w = codeByte (w .ram) (w .rom) (fileOf (w .state .file) PS) (fileOf (w .state .file) PC)
 
--- the trap to vector 1 if BRK was 1 before and no other trap was taken; it ends a halt
+-- what a trap from outside the instruction does: it ends a halt
+unfoldable pub interrupting : ℕ → Act Unit
+interrupting v = do
+  trap v
+  halted false
+
+-- the trap to vector 1 if BRK was 1 before and no other trap was taken
 unfoldable pub singleStep : Bool → Act Unit
 singleStep false = pure tt
-singleStep true = do
-  trap 1
-  halted false
+singleStep true = interrupting 1
 
 unfoldable pub stepping : Instr → ℕ → Act Unit
 stepping i n = do
@@ -84,11 +88,6 @@ step w = stepBy kept w
 
 -- ---- an interrupt call
 
-unfoldable pub interrupting : ℕ → Act Unit
-interrupting v = do
-  trap v
-  halted false
-
 unfoldable pub interruptBy : (ℕ → Choice) → ℕ → Bool → World → Outcome Unit
 interruptBy u v maskable w =
     checked w refusal (pick (maskable && not (flagOf (pswOf (w .state)) IE)) (refusal 7) (runBy u (interrupting v) w))
@@ -101,11 +100,10 @@ interrupt v maskable w = interruptBy kept v maskable w
 unfoldable pub reset : State
 reset = record { file = set (set (replicate 14 0) PS 0xffff) PSW 0xf002; halted = false; tape = 0; log = 0; count = 0 }
 
--- ---- what a call reports: number, world and bus; a refusal leaves the world as it was
+-- ---- what a call reports
 
-pub data Report : Type 0 where
-  report : ℕ → World → Bus → Report
+unfoldable pub stepReport : World → Report
+stepReport w = reportOf w (seen (step w))
 
-abbrev pub reportOf : World → Outcome Unit → Report
-reportOf w (refused n t) = report n w nothing
-reportOf w (done a v t) = report 0 v (tally t)
+unfoldable pub interruptReport : ℕ → Bool → World → Report
+interruptReport v maskable w = reportOf w (seen (interrupt v maskable w))

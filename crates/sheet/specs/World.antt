@@ -1,9 +1,10 @@
--- The machine with what it is lent, and every way in which a part of it changes.
+-- The machine with what it is lent, and the setters of its parts.
 use Prim.Native.Nat.{ℕ, _+_}
 use mathlib.Core.Bool.{Bool}
 use mathlib.Core.List.{List}
 use lib.ListN.{getD, set}
 use Rattle.sheet.specs.declared.State.{State}
+use Rattle.sheet.specs.declared.Progress.{Progress}
 use Rattle.sheet.specs.Registers.{PSW}
 
 pub record World : Type 0 where
@@ -42,3 +43,7 @@ withCount s n = record { file = s .file; halted = s .halted; tape = s .tape; log
 -- a record of n bytes was written and m tape bytes were taken: the places move, and the count starts anew
 abbrev pub recorded : State → ℕ → ℕ → State
 recorded s m n = record { file = s .file; halted = s .halted; tape = s .tape + m; log = s .log + n; count = 0 }
+
+-- the state of these parts
+abbrev pub stateOf : List ℕ → Bool → Progress → State
+stateOf f h q = record { file = f; halted = h; tape = q .tape; log = q .log; count = q .count }

@@ -13,6 +13,13 @@ pub struct State {
     pub count: u32,
 }
 
+// What of a state the ports move.
+pub struct Progress {
+    pub tape: usize,
+    pub log: usize,
+    pub count: u32,
+}
+
 // What data accesses come to.
 pub struct Bus {
     pub cycles: u32,
@@ -62,7 +69,7 @@ pub enum Amount {
     Given(u8),
 }
 
-// ---- instructions, by the groups of section 8
+// ---- instructions, in groups after those of section 8
 
 pub enum Transfer {
     Mov { word: bool, to: Place, from: Source },
@@ -136,7 +143,7 @@ pub enum Convert {
     Cvtwl,
 }
 
-// In the order of the reg field of C0, C1, D0 to D3, without its unused sixth.
+// In the order of the reg field of C0, C1, D0 to D3, of which 6 is unused.
 pub enum Shift {
     Rol,
     Ror,
