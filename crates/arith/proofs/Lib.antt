@@ -1,1 +1,3 @@
 pub mod OperateLaws
+mod Differences
+pub mod Ranges

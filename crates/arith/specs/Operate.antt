@@ -1,5 +1,5 @@
 -- What the eight operations of 80 to 83 come to, once the carry is known.
-use mathlib.Core.Bool.{Bool, true, false}
+use mathlib.Core.Bool.{Bool, false}
 use Prim.Native.Nat.{ℕ}
 use lib.Bits.{bitAnd, bitOr, bitXor}
 use Rattle.sheet.specs.declared.Operation.{Operation}

@@ -1,9 +1,10 @@
 // PSW after an instruction: a column of flags applied, one flag set, a trap entered, a stored PSW taken back. No function here has a precondition.
 ghost use mathlib.Core.Path.{_≡_};
-ghost use Rattle.sheet.specs.Psw.{CY, P, AC, Z, S, IE, DIR, flagOf, pack, blank, becomes, columns, column, only, entering, keeps, settled};
+ghost use Rattle.sheet.specs.Psw.{CY, IE, DIR, flagOf, pack, becomes, columns, column, only, entering, keeps, settled};
 ghost use Rattle.psw.specs.Control.{controls};
 ghost use Rattle.sheet.specs.Arithmetic.{resulting};
 ghost use Rattle.sheet.specs.Contract.{flagged};
+ghost use Rattle.sheet.specs.Transfer.{flagsOfByte};
 use flags::Flags;
 use sheet::Flagged;
 use word::even;
@@ -89,7 +90,7 @@ pub fn restore(x: u16) -> u16
 
 // MOV PSW,AH.
 pub fn from_ah(ah: u16, psw: u16) -> u16
-    ensures { λ r. ⌜ r ≡ settled keeps (column (columns (becomes (flagOf ah AC)) (becomes (flagOf ah CY)) blank (becomes (flagOf ah P)) (becomes (flagOf ah S)) (becomes (flagOf ah Z)))) psw ⌝ }
+    ensures { λ r. ⌜ r ≡ settled keeps (column (flagsOfByte ah)) psw ⌝ }
 {
     let f = flags::unpack(ah);
     affect(f.ac, f.cy, flags::v(psw), f.p, f.s, f.z, psw)

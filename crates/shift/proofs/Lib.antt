@@ -1,1 +1,3 @@
+pub mod CarryLaws
 pub mod Kept
+pub mod Places

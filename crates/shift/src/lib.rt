@@ -1,8 +1,9 @@
 // Shifts and rotates at either width, by the fixed 1 and by a count. No function here has a precondition.
 ghost use mathlib.Core.Path.{_≡_};
-ghost use Rattle.sheet.specs.Psw.{becomes};
+ghost use Rattle.sheet.specs.Psw.{CY, flagOf, becomes};
 ghost use Rattle.sheet.specs.Shift.{leftward, comesIn, toLeft, toRight, onePlace, manyPlaces, signMoves, rotated, shifted, turned, shiftOne, shiftMany};
 ghost use Rattle.sheet.specs.Contract.{flagged};
+ghost use Rattle.shift.specs.Carry.{carried};
 use sheet::Flagged;
 use sheet::Shift;
 use sheet::Turn;
@@ -39,6 +40,21 @@ fn comes_in(kind: Shift, word: bool, t: Turn) -> bool
         Shift::Shl => false,
         Shift::Shr => false,
         Shift::Shra => sign(word, t.value),
+    }
+}
+
+// The carry that shift_one and shift_many are to be given: CY for the rotates through it.
+pub fn carry_in(kind: Shift, psw: u16) -> bool
+    ensures { λ r. ⌜ r ≡ carried kind (flagOf psw CY) ⌝ }
+{
+    match kind {
+        Shift::Rol => false,
+        Shift::Ror => false,
+        Shift::Rolc => flags::cy(psw),
+        Shift::Rorc => flags::cy(psw),
+        Shift::Shl => false,
+        Shift::Shr => false,
+        Shift::Shra => false,
     }
 }
 
