@@ -1,0 +1,102 @@
+// Addition, subtraction, comparison, logic, increment, decrement, complement.
+use registers::PSW;
+use sheet::Arithmetic;
+use sheet::Bus;
+use sheet::Operation;
+use sheet::Place;
+use sheet::Source;
+use sheet::Spot;
+use sheet::Unary;
+ghost use mathlib.Core.Path.{_≡_};
+ghost use Prim.Native.Nat.{ℕ};
+ghost use Rattle.sheet.specs.Arithmetic as tree;
+ghost use Rattle.sheet.specs.Execute.{calculate};
+ghost use Rattle.sheet.specs.Contract.{OnMemory};
+
+// CMP drops the difference.
+fn conclude(
+    file: &mut [u16; 14],
+    ram: &mut [u8],
+    rom: &[u8],
+    op: Operation,
+    word: bool,
+    spot: Spot,
+    v: u16,
+) -> Bus
+    ensures { λ r. ⌜ OnMemory Unit (tree.conclude op word spot v) (now (file .entry)) (now (ram .entry)) (now (rom .entry)) tt (now (file .exit)) (now (ram .exit)) r 2 ⌝ }
+{
+    match op {
+        Operation::Add => operand::deposit(word, file, ram, rom, spot, v),
+        Operation::Or => operand::deposit(word, file, ram, rom, spot, v),
+        Operation::Addc => operand::deposit(word, file, ram, rom, spot, v),
+        Operation::Subc => operand::deposit(word, file, ram, rom, spot, v),
+        Operation::And => operand::deposit(word, file, ram, rom, spot, v),
+        Operation::Sub => operand::deposit(word, file, ram, rom, spot, v),
+        Operation::Xor => operand::deposit(word, file, ram, rom, spot, v),
+        Operation::Cmp => Bus { cycles: 0 },
+    }
+}
+
+fn two(
+    file: &mut [u16; 14],
+    ram: &mut [u8],
+    rom: &[u8],
+    op: Operation,
+    word: bool,
+    to: Place,
+    from: Source,
+) -> Bus
+    ensures { λ r. ⌜ OnMemory Unit (tree.two op word to from) (now (file .entry)) (now (ram .entry)) (now (rom .entry)) tt (now (file .exit)) (now (ram .exit)) r 6 ⌝ }
+{
+    let spot = operand::locate(file, to);
+    let a = operand::fetch(word, file, ram, rom, spot);
+    let b = operand::source_value(word, file, ram, rom, from);
+    let x = arith::operate(op, word, a.value, b.value, file[PSW]);
+    file[PSW] = x.psw;
+    let c = conclude(file, ram, rom, op, word, spot, x.value);
+    Bus {
+        cycles: a.bus.cycles + (b.bus.cycles + c.cycles),
+    }
+}
+
+fn one(file: &mut [u16; 14], ram: &mut [u8], rom: &[u8], op: Unary, word: bool, to: Place) -> Bus
+    ensures { λ r. ⌜ OnMemory Unit (tree.one op word to) (now (file .entry)) (now (ram .entry)) (now (rom .entry)) tt (now (file .exit)) (now (ram .exit)) r 6 ⌝ }
+{
+    let spot = operand::locate(file, to);
+    let a = operand::fetch(word, file, ram, rom, spot);
+    let x = arith::one(op, word, a.value, file[PSW]);
+    file[PSW] = x.psw;
+    let b = operand::deposit(word, file, ram, rom, spot, x.value);
+    Bus {
+        cycles: a.bus.cycles + b.cycles,
+    }
+}
+
+fn test(
+    file: &mut [u16; 14],
+    ram: &mut [u8],
+    rom: &[u8],
+    word: bool,
+    left: Place,
+    right: Source,
+) -> Bus
+    ensures { λ r. ⌜ OnMemory Unit (tree.test word left right) (now (file .entry)) (now (ram .entry)) (now (rom .entry)) tt (now (file .exit)) (now (ram .exit)) r 6 ⌝ }
+{
+    let a = operand::value_at(word, file, ram, rom, left);
+    let b = operand::source_value(word, file, ram, rom, right);
+    let x = arith::logic(word, a.value & b.value, file[PSW]);
+    file[PSW] = x.psw;
+    Bus {
+        cycles: a.bus.cycles + b.bus.cycles,
+    }
+}
+
+pub fn calculate(file: &mut [u16; 14], ram: &mut [u8], rom: &[u8], i: Arithmetic) -> Bus
+    ensures { λ r. ⌜ OnMemory Unit (calculate i) (now (file .entry)) (now (ram .entry)) (now (rom .entry)) tt (now (file .exit)) (now (ram .exit)) r 6 ⌝ }
+{
+    match i {
+        Arithmetic::Two { op, word, to, from } => two(file, ram, rom, op, word, to, from),
+        Arithmetic::One { op, word, to } => one(file, ram, rom, op, word, to),
+        Arithmetic::Test { word, left, right } => test(file, ram, rom, word, left, right),
+    }
+}
