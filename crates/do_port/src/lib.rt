@@ -1,0 +1,106 @@
+// IN and OUT.
+use registers::DW;
+use sheet::Bus;
+use sheet::Io;
+use sheet::Port;
+use sheet::Progress;
+ghost use mathlib.Core.Path.{_≡_};
+ghost use Prim.Native.Nat.{ℕ};
+ghost use Rattle.sheet.specs.Ports as tree;
+ghost use Rattle.sheet.specs.declared.Io.the-variants as io;
+ghost use Rattle.sheet.specs.Contract.{OnFile, OnPorts};
+
+// What a port instruction came to: the number, the places and the bus.
+pub struct Ported {
+    pub number: u8,
+    pub progress: Progress,
+    pub bus: Bus,
+}
+
+fn port_number(file: &[u16; 14], port: Port) -> u16
+    ensures { λ r. ⌜ OnFile ℕ (tree.portNumber port) (now (file .entry)) r (now (file .entry)) ⌝ }
+{
+    match port {
+        Port::InDw => file[DW],
+        Port::Numbered(n) => n as u16,
+    }
+}
+
+fn input(
+    file: &mut [u16; 14],
+    ram: &[u8],
+    rom: &[u8],
+    tape: &[u8],
+    log: &mut [u8],
+    q: Progress,
+    word: bool,
+    port: Port,
+) -> Ported
+    ensures { λ r. ⌜ OnPorts (tree.ports (io.In word port)) (now (file .entry)) (now (ram .entry)) (now (rom .entry)) (now (tape .entry)) (now (log .entry)) q (r .number) (now (file .exit)) (now (ram .entry)) (now (log .exit)) (r .progress) (r .bus) 2 ⌝ }
+{
+    let n = port_number(file, port);
+    let t = ports::take(word, tape, log, q, n);
+    let p = t.progress;
+    let b = t.bus;
+    if t.number == 0 {
+        registers::set_reg(word, file, 0, t.value);
+        return Ported {
+            number: 0,
+            progress: p,
+            bus: b,
+        };
+    }
+    Ported {
+        number: t.number,
+        progress: p,
+        bus: b,
+    }
+}
+
+fn output(
+    file: &[u16; 14],
+    ram: &[u8],
+    rom: &[u8],
+    tape: &[u8],
+    log: &mut [u8],
+    q: Progress,
+    word: bool,
+    port: Port,
+) -> Ported
+    ensures { λ r. ⌜ OnPorts (tree.ports (io.Out word port)) (now (file .entry)) (now (ram .entry)) (now (rom .entry)) (now (tape .entry)) (now (log .entry)) q (r .number) (now (file .entry)) (now (ram .entry)) (now (log .exit)) (r .progress) (r .bus) 2 ⌝ }
+{
+    let n = port_number(file, port);
+    let v = registers::reg(word, file, 0);
+    let g = ports::give(word, log, q, n, v);
+    let p = g.progress;
+    let b = g.bus;
+    if g.number == 0 {
+        return Ported {
+            number: 0,
+            progress: p,
+            bus: b,
+        };
+    }
+    Ported {
+        number: g.number,
+        progress: p,
+        bus: b,
+    }
+}
+
+pub fn access(
+    file: &mut [u16; 14],
+    ram: &[u8],
+    rom: &[u8],
+    tape: &[u8],
+    log: &mut [u8],
+    q: Progress,
+    i: Io,
+) -> Ported
+    ensures { λ r. ⌜ OnPorts (tree.ports i) (now (file .entry)) (now (ram .entry)) (now (rom .entry)) (now (tape .entry)) (now (log .entry)) q (r .number) (now (file .exit)) (now (ram .entry)) (now (log .exit)) (r .progress) (r .bus) 2 ⌝ }
+{
+    match i {
+        Io::In { word, port } => input(file, ram, rom, tape, log, q, word, port),
+        Io::Out { word, port } => output(file, ram, rom, tape, log, q, word, port),
+    }
+}
