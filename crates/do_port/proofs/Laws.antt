@@ -15,10 +15,10 @@ use Rattle.sheet.specs.World.{world, stateOf}
 use Rattle.sheet.specs.Handler.{nothing}
 use Rattle.sheet.specs.Operand.{regValue, setReg}
 use Rattle.sheet.specs.Ports.{portNumber, ports}
-use Rattle.sheet.specs.Contract.{Ends, Stops, OnFile, OnPorts}
+use Rattle.sheet.specs.Contract.{Ends, OnFile}
 use Rattle.sheet.proofs.Rules.{seq-free, seq-last, seq-stops, seq-then-stops}
 use Rattle.sheet.proofs.Lifted.{file-seq, file-pure, file-registers}
-use Rattle.ports.specs.Accesses.{Gives, Takes}
+use Rattle.ports.specs.Accesses.{Gives, Takes, OnPorts}
 use Rattle.ports.proofs.Told.{ports-end, ports-stop}
 
 pub port-in-dw : (f : List ℕ) (p : Port) → p ≡ InDw → OnFile ℕ (portNumber p) f (getD f DW 0) f
@@ -39,7 +39,7 @@ module _ (w : Bool) (port : Port) (f g ram rom tape log log′ : List ℕ) (q q�
   pub input-stop : Takes w n tape log q number v log′ q′ c → (number ≡ 0 → ⊥) → OnPorts (ports (In w port)) f ram rom tape log q number f ram log′ q′ c 2
   unfolding ports
   input-stop t z =
-      ports-stop _ f ram rom tape log q number log′ q′ c 2 (t .same z)
+      ports-stop _ f ram rom tape log q number log′ q′ c 2 z (t .same z)
       (λ h. seq-then-stops _ (k .at (stateOf f h q) ram rom tape log) (seq-stops _ (t .stop z f h ram rom)))
 
   pub output-done : v ≡ readReg w (fileOf f) AW → Gives w n v log q number log′ q′ c → number ≡ 0 → OnPorts (ports (Out w port)) f ram rom tape log q 0 f ram log′ q′ c 2
@@ -54,7 +54,7 @@ module _ (w : Bool) (port : Port) (f g ram rom tape log log′ : List ℕ) (q q�
   pub output-stop : v ≡ readReg w (fileOf f) AW → Gives w n v log q number log′ q′ c → (number ≡ 0 → ⊥) → OnPorts (ports (Out w port)) f ram rom tape log q number f ram log′ q′ c 2
   unfolding ports regValue
   output-stop e t z =
-      ports-stop _ f ram rom tape log q number log′ q′ c 2 (t .same z)
+      ports-stop _ f ram rom tape log q number log′ q′ c 2 z (t .same z)
       (λ h. seq-then-stops _ (k .at (stateOf f h q) ram rom tape log) (seq-then-stops _ (value h) (rw (← e) (t .stop z f h ram rom tape))))
     where
       value : (h : Bool) → Ends ℕ (regValue w AW) (world (stateOf f h q) ram rom tape log) (readReg w (fileOf f) AW) (world (stateOf f h q) ram rom tape log) nothing

@@ -8,7 +8,8 @@ ghost use mathlib.Core.Path.{_≡_};
 ghost use Prim.Native.Nat.{ℕ};
 ghost use Rattle.sheet.specs.Ports as tree;
 ghost use Rattle.sheet.specs.declared.Io.the-variants as io;
-ghost use Rattle.sheet.specs.Contract.{OnFile, OnPorts};
+ghost use Rattle.sheet.specs.Contract.{OnFile};
+ghost use Rattle.ports.specs.Accesses.{OnPorts};
 
 // What a port instruction came to: the number, the places and the bus.
 pub struct Ported {

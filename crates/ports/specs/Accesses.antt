@@ -1,4 +1,4 @@
--- What a port access comes to, whatever registers and memory are.
+-- What a port access comes to, whatever registers and memory are; and an instruction that makes one.
 use Prim.Native.Nat.{ℕ, _+_, _≤_, _<_}
 use mathlib.Core.Bool.{Bool}
 use mathlib.Core.List.{List}
@@ -8,7 +8,7 @@ use Rattle.sheet.specs.declared.Bus.{Bus}
 use Rattle.sheet.specs.declared.Progress.{Progress}
 use Rattle.sheet.specs.Log.{writeLog}
 use Rattle.sheet.specs.World.{World, world, stateOf}
-use Rattle.sheet.specs.Act.{inp, out}
+use Rattle.sheet.specs.Act.{Act, inp, out}
 use Rattle.sheet.specs.Handler.{nothing}
 use Rattle.sheet.specs.Contract.{Ends, Stops}
 
@@ -28,3 +28,10 @@ pub record Takes (w : Bool) (port : ℕ) (tape log : List ℕ) (q : Progress) (n
   pub done : number ≡ 0 → (f : List ℕ) (h : Bool) (ram rom : List ℕ) → Ends ℕ (inp w port) (world (stateOf f h q) ram rom tape log) v (world (stateOf f h q′) ram rom tape log′) n
   pub stop : (number ≡ 0 → ⊥) → (f : List ℕ) (h : Bool) (ram rom : List ℕ) → Stops ℕ (inp w port) (world (stateOf f h q) ram rom tape log) number
   pub same : (number ≡ 0 → ⊥) → (log′ ≡ log) × (q′ ≡ q) × (n ≡ nothing)
+
+-- an instruction that is lent everything but the halted mark, with the most bus cycles that it takes
+pub record OnPorts (p : Act Unit) (f ram rom tape log : List ℕ) (q : Progress) (number : ℕ) (f′ ram′ log′ : List ℕ) (q′ : Progress) (n : Bus) (top : ℕ) : Type 0 where
+  pub most : n .cycles ≤ top
+  pub done : number ≡ 0 → (h : Bool) → Ends Unit p (world (stateOf f h q) ram rom tape log) tt (world (stateOf f′ h q′) ram′ rom tape log′) n
+  pub stop : (number ≡ 0 → ⊥) → (h : Bool) → Stops Unit p (world (stateOf f h q) ram rom tape log) number
+  pub same : (number ≡ 0 → ⊥) → (ram′ ≡ ram) × (log′ ≡ log) × (n ≡ nothing)
