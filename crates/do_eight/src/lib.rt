@@ -1,0 +1,96 @@
+// PUSH R and POP R: the eight general registers at once.
+use memory::Loaded;
+use registers::AW;
+use registers::BP;
+use registers::BW;
+use registers::CW;
+use registers::DW;
+use registers::IX;
+use registers::IY;
+use registers::SP;
+use sheet::Bus;
+ghost use Prim.Native.Nat.{ℕ};
+ghost use Rattle.sheet.specs.Stack as tree;
+ghost use Rattle.sheet.specs.Contract.{OnMemory};
+ghost use Rattle.do_eight.specs.Parts.{pushFour, popPointers, popGeneral};
+
+fn push_four(
+    file: &mut [u16; 14],
+    ram: &mut [u8],
+    rom: &[u8],
+    a: u16,
+    b: u16,
+    c: u16,
+    d: u16,
+) -> Bus
+    ensures { λ r. ⌜ OnMemory Unit (pushFour a b c d) (now (file .entry)) (now (ram .entry)) (now (rom .entry)) tt (now (file .exit)) (now (ram .exit)) r 8 ⌝ }
+{
+    let x = traps::push_two(file, ram, rom, a, b);
+    let y = traps::push_two(file, ram, rom, c, d);
+    Bus {
+        cycles: x.cycles + y.cycles,
+    }
+}
+
+pub fn push_r(file: &mut [u16; 14], ram: &mut [u8], rom: &[u8]) -> Bus
+    ensures { λ r. ⌜ OnMemory Unit tree.pushR (now (file .entry)) (now (ram .entry)) (now (rom .entry)) tt (now (file .exit)) (now (ram .exit)) r 16 ⌝ }
+{
+    let aw = file[AW];
+    let cw = file[CW];
+    let dw = file[DW];
+    let bw = file[BW];
+    let sp = file[SP];
+    let bp = file[BP];
+    let ix = file[IX];
+    let iy = file[IY];
+    let x = push_four(file, ram, rom, aw, cw, dw, bw);
+    let y = push_four(file, ram, rom, sp, bp, ix, iy);
+    Bus {
+        cycles: x.cycles + y.cycles,
+    }
+}
+
+// IY, IX and BP. The word that stands for SP is read and handed back.
+fn pop_pointers(file: &mut [u16; 14], ram: &[u8], rom: &[u8]) -> Loaded
+    ensures { λ r. ⌜ OnMemory ℕ popPointers (now (file .entry)) (now (ram .entry)) (now (rom .entry)) (r .value) (now (file .exit)) (now (ram .entry)) (r .bus) 8 ⌝ }
+{
+    let iy = traps::pop(file, ram, rom);
+    file[IY] = iy.value;
+    let ix = traps::pop(file, ram, rom);
+    file[IX] = ix.value;
+    let bp = traps::pop(file, ram, rom);
+    file[BP] = bp.value;
+    let sp = traps::pop(file, ram, rom);
+    Loaded {
+        value: sp.value,
+        bus: Bus {
+            cycles: iy.bus.cycles + (ix.bus.cycles + (bp.bus.cycles + sp.bus.cycles)),
+        },
+    }
+}
+
+fn pop_general(file: &mut [u16; 14], ram: &[u8], rom: &[u8]) -> Bus
+    ensures { λ r. ⌜ OnMemory Unit popGeneral (now (file .entry)) (now (ram .entry)) (now (rom .entry)) tt (now (file .exit)) (now (ram .entry)) r 8 ⌝ }
+{
+    let bw = traps::pop(file, ram, rom);
+    file[BW] = bw.value;
+    let dw = traps::pop(file, ram, rom);
+    file[DW] = dw.value;
+    let cw = traps::pop(file, ram, rom);
+    file[CW] = cw.value;
+    let aw = traps::pop(file, ram, rom);
+    file[AW] = aw.value;
+    Bus {
+        cycles: bw.bus.cycles + (dw.bus.cycles + (cw.bus.cycles + aw.bus.cycles)),
+    }
+}
+
+pub fn pop_r(file: &mut [u16; 14], ram: &[u8], rom: &[u8]) -> Bus
+    ensures { λ r. ⌜ OnMemory Unit tree.popR (now (file .entry)) (now (ram .entry)) (now (rom .entry)) tt (now (file .exit)) (now (ram .entry)) r 16 ⌝ }
+{
+    let x = pop_pointers(file, ram, rom);
+    let y = pop_general(file, ram, rom);
+    Bus {
+        cycles: x.bus.cycles + y.cycles,
+    }
+}

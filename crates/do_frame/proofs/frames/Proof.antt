@@ -1,0 +1,22 @@
+use Rattle.do_frame.proofs.Laws.{frames-are, no-frames}
+use borrow.Author.Needs.{needs}
+use Rattle.do_frame.proofs.frames.Statement.{statement}
+use Rattle.do_frame.proofs.frames.Tie as tie
+
+returns : tie.Need-returns
+returns c = search (no-frames, needs)
+
+returns-2 : tie.Need-returns-2
+returns-2 c = search (frames-are, needs)
+
+pub frames-spec : {M : Type 1} → statement M
+frames-spec =
+    tie.close
+    (tie.spec
+    returns
+    (λ c. search needs)
+    (λ c κs. search needs)
+    (λ c κs. search needs)
+    (λ c. search needs)
+    (λ c. search needs)
+    returns-2)
