@@ -1,0 +1,22 @@
+use Rattle.elements.proofs.Laws.{goes-back, stays}
+use borrow.Author.Needs.{needs}
+use Rattle.elements.proofs.finish_element.Statement.{statement}
+use Rattle.elements.proofs.finish_element.Tie as tie
+
+returns : tie.Need-returns
+returns c = search (stays, needs)
+
+returns-2 : tie.Need-returns-2
+returns-2 c = search (goes-back, needs)
+
+pub finish-element-spec : {M : Type 1} → statement M
+finish-element-spec =
+    tie.close
+    (tie.spec
+    (λ c. search needs)
+    (λ c κs. search needs)
+    (λ c. search needs)
+    (λ c κs. search needs)
+    returns
+    (λ c. search needs)
+    returns-2)

@@ -1,0 +1,18 @@
+use Rattle.elements.proofs.Laws.{step-ix-is}
+use borrow.Author.Needs.{needs}
+use Rattle.elements.proofs.step_ix.Statement.{statement}
+use Rattle.elements.proofs.step_ix.Tie as tie
+
+returns : tie.Need-returns
+returns c = search (step-ix-is, needs)
+
+pub step-ix-spec : {M : Type 1} → statement M
+step-ix-spec =
+    tie.close
+    (tie.spec
+    (λ c. search needs)
+    (λ c κs. search needs)
+    (λ c. search needs)
+    (λ c κs. search needs)
+    (λ c. search needs)
+    returns)

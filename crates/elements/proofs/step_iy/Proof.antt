@@ -1,0 +1,18 @@
+use Rattle.elements.proofs.Laws.{step-iy-is}
+use borrow.Author.Needs.{needs}
+use Rattle.elements.proofs.step_iy.Statement.{statement}
+use Rattle.elements.proofs.step_iy.Tie as tie
+
+returns : tie.Need-returns
+returns c = search (step-iy-is, needs)
+
+pub step-iy-spec : {M : Type 1} → statement M
+step-iy-spec =
+    tie.close
+    (tie.spec
+    (λ c. search needs)
+    (λ c κs. search needs)
+    (λ c. search needs)
+    (λ c κs. search needs)
+    (λ c. search needs)
+    returns)

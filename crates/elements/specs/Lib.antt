@@ -1,0 +1,3 @@
+pub mod AfterElement
+pub mod Due
+pub mod Stepped

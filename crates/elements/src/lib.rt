@@ -1,0 +1,150 @@
+// What the block primitives are made of: the elements due, the index registers, and how a repeat goes on.
+use memory::Loaded;
+use registers::CW;
+use registers::DS1;
+use registers::IX;
+use registers::IY;
+use registers::PC;
+use registers::PSW;
+use sheet::Bus;
+use sheet::Primitive;
+use sheet::Repeat;
+ghost use mathlib.Core.Path.{_≡_};
+ghost use mathlib.Core.Bool.{Bool};
+ghost use Prim.Native.Nat.{ℕ};
+ghost use Rattle.sheet.specs.Width.{bytesOf};
+ghost use Rattle.sheet.specs.Registers as sheet;
+ghost use Rattle.sheet.specs.Block as tree;
+ghost use Rattle.sheet.specs.Contract.{OnFile, OnMemory};
+ghost use Rattle.elements.specs.Stepped.{steppedOf};
+ghost use Rattle.elements.specs.AfterElement.{afterElement};
+ghost use Rattle.elements.specs.Due.{countedDue, dueOf};
+
+// ---- the index registers
+
+fn bytes(word: bool) -> u16
+    ensures { λ r. ⌜ r ≡ bytesOf word ⌝ }
+{
+    if word { 2 } else { 1 }
+}
+
+// An index one element on.
+fn stepped(word: bool, down: bool, x: u16) -> u16
+    ensures { λ r. ⌜ r ≡ steppedOf word down x ⌝ }
+{
+    let n = bytes(word);
+    if down {
+        return word::minus16(x, n);
+    }
+    word::plus16(x, n)
+}
+
+pub fn step_ix(word: bool, file: &mut [u16; 14])
+    ensures { λ _. ⌜ OnFile Unit (tree.stepIndex word sheet.IX) (now (file .entry)) tt (now (file .exit)) ⌝ }
+{
+    let down = flags::dir(file[PSW]);
+    file[IX] = stepped(word, down, file[IX]);
+}
+
+pub fn step_iy(word: bool, file: &mut [u16; 14])
+    ensures { λ _. ⌜ OnFile Unit (tree.stepIndex word sheet.IY) (now (file .entry)) tt (now (file .exit)) ⌝ }
+{
+    let down = flags::dir(file[PSW]);
+    file[IY] = stepped(word, down, file[IY]);
+}
+
+// ---- the elements due
+
+pub fn source_element(word: bool, file: &[u16; 14], ram: &[u8], rom: &[u8], seg: u8) -> Loaded
+    ensures { λ r. ⌜ OnMemory ℕ (tree.sourceElement word seg) (now (file .entry)) (now (ram .entry)) (now (rom .entry)) (r .value) (now (file .entry)) (now (ram .entry)) (r .bus) 2 ⌝ }
+{
+    let g = registers::base(file, seg);
+    let ix = file[IX];
+    memory::load(word, ram, rom, g, ix)
+}
+
+pub fn target_element(word: bool, file: &[u16; 14], ram: &[u8], rom: &[u8]) -> Loaded
+    ensures { λ r. ⌜ OnMemory ℕ (tree.targetElement word) (now (file .entry)) (now (ram .entry)) (now (rom .entry)) (r .value) (now (file .entry)) (now (ram .entry)) (r .bus) 2 ⌝ }
+{
+    let ds1 = file[DS1];
+    let iy = file[IY];
+    memory::load(word, ram, rom, ds1, iy)
+}
+
+pub fn set_target(word: bool, file: &[u16; 14], ram: &mut [u8], rom: &[u8], v: u16) -> Bus
+    ensures { λ r. ⌜ OnMemory Unit (tree.setTarget word v) (now (file .entry)) (now (ram .entry)) (now (rom .entry)) tt (now (file .entry)) (now (ram .exit)) r 2 ⌝ }
+{
+    let ds1 = file[DS1];
+    let iy = file[IY];
+    memory::store(word, ram, ds1, iy, v)
+}
+
+// ---- repeats
+
+// What a block instruction has to do with CW as it is.
+pub enum Due {
+    Nothing,
+    Single,
+    Element,
+}
+
+fn counted(cw: u16) -> Due
+    ensures { λ r. ⌜ r ≡ countedDue cw ⌝ }
+{
+    if cw == 0 {
+        return Due::Nothing;
+    }
+    Due::Element
+}
+
+pub fn what_is_due(cw: u16, repeat: Repeat) -> Due
+    ensures { λ r. ⌜ r ≡ dueOf cw repeat ⌝ }
+{
+    match repeat {
+        Repeat::Once => Due::Single,
+        Repeat::WhileZ => counted(cw),
+        Repeat::WhileNotZ => counted(cw),
+        Repeat::WhileCy => counted(cw),
+        Repeat::WhileNotCy => counted(cw),
+    }
+}
+
+// Whether a comparison lets its repeat go on.
+fn goes_on(file: &[u16; 14], repeat: Repeat) -> bool
+    ensures { λ r. ⌜ OnFile Bool (tree.goesOn repeat) (now (file .entry)) r (now (file .entry)) ⌝ }
+{
+    match repeat {
+        Repeat::Once => false,
+        Repeat::WhileZ => flags::z(file[PSW]),
+        Repeat::WhileNotZ => !flags::z(file[PSW]),
+        Repeat::WhileCy => flags::cy(file[PSW]),
+        Repeat::WhileNotCy => !flags::cy(file[PSW]),
+    }
+}
+
+pub fn goes_on_after(file: &[u16; 14], primitive: Primitive, repeat: Repeat) -> bool
+    ensures { λ r. ⌜ OnFile Bool (tree.goesOnAfter primitive repeat) (now (file .entry)) r (now (file .entry)) ⌝ }
+{
+    match primitive {
+        Primitive::Movbk => true,
+        Primitive::Cmpbk => goes_on(file, repeat),
+        Primitive::Cmpm => goes_on(file, repeat),
+        Primitive::Ldm => true,
+        Primitive::Stm => true,
+        Primitive::Inm => true,
+        Primitive::Outm => true,
+    }
+}
+
+// What follows the primitive in an element: CW falls, and PC goes back unless the repeat ends.
+pub fn finish_element(file: &mut [u16; 14], primitive: Primitive, repeat: Repeat, start: u16)
+    ensures { λ _. ⌜ OnFile Unit (afterElement primitive repeat start) (now (file .entry)) tt (now (file .exit)) ⌝ }
+{
+    let cw = word::minus16(file[CW], 1);
+    file[CW] = cw;
+    let on = goes_on_after(file, primitive, repeat);
+    if !on | (cw == 0) {
+        return;
+    }
+    file[PC] = start;
+}
