@@ -1,0 +1,12 @@
+use Rattle.do_block.proofs.Laws.{one-element}
+use borrow.Author.Needs.{needs}
+use Rattle.do_block.proofs.element.Statement.{statement}
+use Rattle.do_block.proofs.element.Tie as tie
+
+returns : tie.Need-returns
+returns c = search (one-element, needs)
+
+pub element-spec : {M : Type 1} → statement M
+element-spec =
+    tie.close
+    (tie.spec (λ c κs. search needs) (λ c κs. search needs) (λ c κs. search needs) (λ c. search needs) returns)

@@ -1,0 +1,155 @@
+// The block primitives that use no port, single and repeated.
+use elements::Due;
+use registers::CW;
+use registers::PSW;
+use sheet::Bus;
+use sheet::Primitive;
+use sheet::Repeat;
+ghost use mathlib.Core.Path.{_≡_};
+ghost use mathlib.Core.Bool.{false};
+ghost use Rattle.sheet.specs.declared.Primitive.the-variants as sheet;
+ghost use Rattle.sheet.specs.Act.{affect};
+ghost use Rattle.sheet.specs.Arithmetic.{difference};
+ghost use Rattle.sheet.specs.Block as tree;
+ghost use Rattle.sheet.specs.Contract.{OnFile, OnMemory};
+ghost use Rattle.do_block.specs.Portless.{primitiveOf};
+
+// The flags of a comparison.
+fn compare(word: bool, file: &mut [u16; 14], a: u16, b: u16)
+    ensures { λ _. ⌜ OnFile Unit (affect (difference word a b false .column)) (now (file .entry)) tt (now (file .exit)) ⌝ }
+{
+    let d = arith::sub(word, a, b, false, file[PSW]);
+    file[PSW] = d.psw;
+}
+
+fn movbk(file: &mut [u16; 14], ram: &mut [u8], rom: &[u8], word: bool, seg: u8) -> Bus
+    ensures { λ r. ⌜ OnMemory Unit (tree.primitive sheet.Movbk word seg) (now (file .entry)) (now (ram .entry)) (now (rom .entry)) tt (now (file .exit)) (now (ram .exit)) r 4 ⌝ }
+{
+    let v = elements::source_element(word, file, ram, rom, seg);
+    let b = elements::set_target(word, file, ram, rom, v.value);
+    elements::step_ix(word, file);
+    elements::step_iy(word, file);
+    Bus {
+        cycles: v.bus.cycles + b.cycles,
+    }
+}
+
+fn cmpbk(file: &mut [u16; 14], ram: &mut [u8], rom: &[u8], word: bool, seg: u8) -> Bus
+    ensures { λ r. ⌜ OnMemory Unit (tree.primitive sheet.Cmpbk word seg) (now (file .entry)) (now (ram .entry)) (now (rom .entry)) tt (now (file .exit)) (now (ram .exit)) r 4 ⌝ }
+{
+    let a = elements::source_element(word, file, ram, rom, seg);
+    let b = elements::target_element(word, file, ram, rom);
+    compare(word, file, a.value, b.value);
+    elements::step_ix(word, file);
+    elements::step_iy(word, file);
+    Bus {
+        cycles: a.bus.cycles + b.bus.cycles,
+    }
+}
+
+fn cmpm(file: &mut [u16; 14], ram: &mut [u8], rom: &[u8], word: bool, seg: u8) -> Bus
+    ensures { λ r. ⌜ OnMemory Unit (tree.primitive sheet.Cmpm word seg) (now (file .entry)) (now (ram .entry)) (now (rom .entry)) tt (now (file .exit)) (now (ram .exit)) r 4 ⌝ }
+{
+    let a = registers::reg(word, file, 0);
+    let b = elements::target_element(word, file, ram, rom);
+    compare(word, file, a, b.value);
+    elements::step_iy(word, file);
+    b.bus
+}
+
+fn ldm(file: &mut [u16; 14], ram: &mut [u8], rom: &[u8], word: bool, seg: u8) -> Bus
+    ensures { λ r. ⌜ OnMemory Unit (tree.primitive sheet.Ldm word seg) (now (file .entry)) (now (ram .entry)) (now (rom .entry)) tt (now (file .exit)) (now (ram .exit)) r 4 ⌝ }
+{
+    let v = elements::source_element(word, file, ram, rom, seg);
+    registers::set_reg(word, file, 0, v.value);
+    elements::step_ix(word, file);
+    v.bus
+}
+
+fn stm(file: &mut [u16; 14], ram: &mut [u8], rom: &[u8], word: bool, seg: u8) -> Bus
+    ensures { λ r. ⌜ OnMemory Unit (tree.primitive sheet.Stm word seg) (now (file .entry)) (now (ram .entry)) (now (rom .entry)) tt (now (file .exit)) (now (ram .exit)) r 4 ⌝ }
+{
+    let v = registers::reg(word, file, 0);
+    let b = elements::set_target(word, file, ram, rom, v);
+    elements::step_iy(word, file);
+    b
+}
+
+// The primitives for which the memory is enough.
+pub enum Portless {
+    Movbk,
+    Cmpbk,
+    Cmpm,
+    Ldm,
+    Stm,
+}
+
+fn named(kind: Portless) -> Primitive
+    ensures { λ r. ⌜ r ≡ primitiveOf kind ⌝ }
+{
+    match kind {
+        Portless::Movbk => Primitive::Movbk,
+        Portless::Cmpbk => Primitive::Cmpbk,
+        Portless::Cmpm => Primitive::Cmpm,
+        Portless::Ldm => Primitive::Ldm,
+        Portless::Stm => Primitive::Stm,
+    }
+}
+
+fn primitive(
+    file: &mut [u16; 14],
+    ram: &mut [u8],
+    rom: &[u8],
+    kind: Portless,
+    word: bool,
+    seg: u8,
+) -> Bus
+    ensures { λ r. ⌜ OnMemory Unit (tree.primitive (primitiveOf kind) word seg) (now (file .entry)) (now (ram .entry)) (now (rom .entry)) tt (now (file .exit)) (now (ram .exit)) r 4 ⌝ }
+{
+    match kind {
+        Portless::Movbk => movbk(file, ram, rom, word, seg),
+        Portless::Cmpbk => cmpbk(file, ram, rom, word, seg),
+        Portless::Cmpm => cmpm(file, ram, rom, word, seg),
+        Portless::Ldm => ldm(file, ram, rom, word, seg),
+        Portless::Stm => stm(file, ram, rom, word, seg),
+    }
+}
+
+fn element(
+    file: &mut [u16; 14],
+    ram: &mut [u8],
+    rom: &[u8],
+    kind: Portless,
+    word: bool,
+    seg: u8,
+    repeat: Repeat,
+    start: u16,
+) -> Bus
+    ensures { λ r. ⌜ OnMemory Unit (tree.element (primitiveOf kind) word seg repeat start) (now (file .entry)) (now (ram .entry)) (now (rom .entry)) tt (now (file .exit)) (now (ram .exit)) r 4 ⌝ }
+{
+    let b = primitive(file, ram, rom, kind, word, seg);
+    let k = named(kind);
+    elements::finish_element(file, k, repeat, start);
+    b
+}
+
+// One element of an instruction whose first prefix is at the offset `start`.
+pub fn block(
+    file: &mut [u16; 14],
+    ram: &mut [u8],
+    rom: &[u8],
+    kind: Portless,
+    word: bool,
+    seg: u8,
+    repeat: Repeat,
+    start: u16,
+) -> Bus
+    ensures { λ r. ⌜ OnMemory Unit (tree.block (primitiveOf kind) word seg repeat start) (now (file .entry)) (now (ram .entry)) (now (rom .entry)) tt (now (file .exit)) (now (ram .exit)) r 4 ⌝ }
+{
+    let due = elements::what_is_due(file[CW], repeat);
+    match due {
+        Due::Nothing => Bus { cycles: 0 },
+        Due::Single => primitive(file, ram, rom, kind, word, seg),
+        Due::Element => element(file, ram, rom, kind, word, seg, repeat, start),
+    }
+}
