@@ -1,0 +1,90 @@
+-- What each instruction comes to, from what its parts come to.
+use Prim.Native.Nat.{ℕ, _+_, _≤_, zero-le}
+use mathlib.Core.Bool.{Bool}
+use mathlib.Core.List.{List}
+use mathlib.Core.Path.{_≡_, refl}
+use native.Mathlib.Nat.{add-le-add}
+use native.Mathlib.Omega.{arith}
+use lib.ListN.{getD}
+use Rattle.sheet.specs.declared.Bus.{Bus}
+use Rattle.sheet.specs.declared.Progress.{Progress}
+use Rattle.sheet.specs.declared.Primitive.{Primitive}
+use Rattle.sheet.specs.declared.Primitive.the-variants.{Inm, Outm}
+use Rattle.sheet.specs.declared.Repeat.{Repeat}
+use Rattle.sheet.specs.Registers.{CW, DW, IX, IY}
+use Rattle.sheet.specs.World.{world, stateOf}
+use Rattle.sheet.specs.Handler.{nothing, _⊕_}
+use Rattle.sheet.specs.Act.{pure}
+use Rattle.sheet.specs.Block.{sourceElement, setTarget, stepIndex, primitive, element, block}
+use Rattle.sheet.specs.Contract.{Ends, Stops, OnFile, OnMemory}
+use Rattle.sheet.proofs.Rules.{seq, seq-free, seq-last, seq-stops, seq-then-stops, ends-pure, seq-registers, ends-registers}
+use Rattle.ports.specs.Accesses.{Gives, Takes, OnPorts}
+use Rattle.ports.proofs.Told.{ports-end, ports-stop}
+use Rattle.elements.specs.declared.Due.{Due}
+use Rattle.elements.specs.declared.Due.the-variants.{Nothing, Single, Element}
+use Rattle.elements.specs.Due.{dueOf, dueTree}
+use Rattle.elements.specs.AfterElement.{afterElement}
+use Rattle.elements.proofs.DueLaws.{element-is, due-ends, due-stops}
+use Rattle.do_port_block.specs.declared.Streaming.{Streaming}
+use Rattle.do_port_block.specs.declared.Streaming.the-variants as streaming
+use Rattle.do_port_block.specs.Streams.{primitiveOf}
+
+module _ (w : Bool) (seg : ℕ) (f g ram ram′ rom tape log log′ : List ℕ) (q q′ : Progress) (number v : ℕ) (c m : Bus) where
+  pub inm-done : Takes w (getD f DW 0) tape log q number v log′ q′ c → number ≡ 0 → OnMemory Unit (setTarget w v) f ram rom tt f ram′ m 2 → OnFile Unit (stepIndex w IY) f tt g
+      → OnPorts (primitive Inm w seg) f ram rom tape log q 0 g ram′ log′ q′ (c ⊕ m) 4
+  unfolding primitive
+  inm-done t z s x =
+      ports-end _ f ram rom tape log q g ram′ log′ q′ (c ⊕ m) 4 (add-le-add (t .most) (s .most))
+      (λ h. seq-registers _ (seq _ (t .done z f h ram rom) (seq-last _ (s .at (stateOf f h q′) tape log′) (x .at (stateOf f h q′) ram′ rom tape log′))))
+
+  pub inm-stop : Takes w (getD f DW 0) tape log q number v log′ q′ c → (number ≡ 0 → ⊥) → OnPorts (primitive Inm w seg) f ram rom tape log q number f ram log′ q′ c 4
+  unfolding primitive
+  inm-stop t z =
+      ports-stop _ f ram rom tape log q number log′ q′ c 4 z (t .same z)
+      (λ h. seq-then-stops _ ends-registers (seq-stops _ (t .stop z f h ram rom)))
+
+  pub outm-done : OnMemory ℕ (sourceElement w seg) f ram rom v f ram m 2 → Gives w (getD f DW 0) v log q number log′ q′ c → number ≡ 0 → OnFile Unit (stepIndex w IX) f tt g
+      → OnPorts (primitive Outm w seg) f ram rom tape log q 0 g ram log′ q′ (m ⊕ c) 4
+  unfolding primitive
+  outm-done s t z x =
+      ports-end _ f ram rom tape log q g ram log′ q′ (m ⊕ c) 4 (add-le-add (s .most) (t .most))
+      (λ h. seq _ (s .at (stateOf f h q) tape log) (seq-registers _ (seq-last _ (t .done z f h ram rom tape) (x .at (stateOf f h q′) ram rom tape log′))))
+
+  pub outm-stop : OnMemory ℕ (sourceElement w seg) f ram rom v f ram m 2 → Gives w (getD f DW 0) v log q number log′ q′ c → (number ≡ 0 → ⊥)
+      → OnPorts (primitive Outm w seg) f ram rom tape log q number f ram log′ q′ c 4
+  unfolding primitive
+  outm-stop s t z =
+      ports-stop _ f ram rom tape log q number log′ q′ c 4 z (t .same z)
+      (λ h. seq-then-stops _ (s .at (stateOf f h q) tape log) (seq-then-stops _ ends-registers (seq-stops _ (t .stop z f h ram rom tape))))
+
+module _ (i : Streaming) (w : Bool) (seg : ℕ) (f g ram ram′ rom tape log log′ : List ℕ) (q q′ : Progress) (number : ℕ) (c : Bus) where
+  pub at-inm : i ≡ streaming.Inm → OnPorts (primitive Inm w seg) f ram rom tape log q number g ram′ log′ q′ c 4 → OnPorts (primitive (primitiveOf i) w seg) f ram rom tape log q number g ram′ log′ q′ c 4
+  at-inm e h = rw e h
+
+  pub at-outm : i ≡ streaming.Outm → OnPorts (primitive Outm w seg) f ram rom tape log q number g ram′ log′ q′ c 4 → OnPorts (primitive (primitiveOf i) w seg) f ram rom tape log q number g ram′ log′ q′ c 4
+  at-outm e h = rw e h
+
+module _ (k : Primitive) (w : Bool) (seg : ℕ) (r : Repeat) (start : ℕ) (f ram rom tape log : List ℕ) (q : Progress) where
+  pub one-element : (i : Primitive) (g j ram′ log′ : List ℕ) (q′ : Progress) (number : ℕ) (c : Bus) → i ≡ k → OnPorts (primitive k w seg) f ram rom tape log q number g ram′ log′ q′ c 4 → number ≡ 0
+      → OnFile Unit (afterElement i r start) g tt j → OnPorts (element k w seg r start) f ram rom tape log q number j ram′ log′ q′ c 4
+  one-element i g j ram′ log′ q′ number c e p z x =
+      rw (z, element-is k w seg r start)
+      (ports-end _ f ram rom tape log q j ram′ log′ q′ c 4 (p .most) (λ h. seq-last _ (p .done z h) (rw e at (x .at (stateOf g h q′) ram′ rom tape log′))))
+
+  pub no-element : (g ram′ log′ : List ℕ) (q′ : Progress) (number : ℕ) (c : Bus) → OnPorts (primitive k w seg) f ram rom tape log q number g ram′ log′ q′ c 4 → (number ≡ 0 → ⊥)
+      → OnPorts (element k w seg r start) f ram rom tape log q number g ram′ log′ q′ c 4
+  no-element g ram′ log′ q′ number c p z =
+      rw (element-is k w seg r start) (record { most = p .most; done = λ y. absurd (z y); stop = λ y h. seq-stops _ (p .stop z h); same = p .same })
+
+  pub nothing-due : (d : Due) → d ≡ dueOf (getD f CW 0) r → d ≡ Nothing → OnPorts (block k w seg r start) f ram rom tape log q 0 f ram log q nothing 4
+  unfolding dueTree
+  nothing-due d e z = ports-end _ f ram rom tape log q f ram log q nothing 4 zero-le (λ h. due-ends k w seg r start d e (rw z ends-pure))
+
+  module _ (d : Due) (g ram′ log′ : List ℕ) (q′ : Progress) (number : ℕ) (c : Bus) (e : d ≡ dueOf (getD f CW 0) r) where
+    pub single-due : d ≡ Single → OnPorts (primitive k w seg) f ram rom tape log q number g ram′ log′ q′ c 4 → OnPorts (block k w seg r start) f ram rom tape log q number g ram′ log′ q′ c 4
+    unfolding dueTree
+    single-due z p = record { most = p .most; done = λ y h. due-ends k w seg r start d e (rw z (p .done y h)); stop = λ y h. due-stops k w seg r start d e (rw z (p .stop y h)); same = p .same }
+
+    pub element-due : d ≡ Element → OnPorts (element k w seg r start) f ram rom tape log q number g ram′ log′ q′ c 4 → OnPorts (block k w seg r start) f ram rom tape log q number g ram′ log′ q′ c 4
+    unfolding dueTree
+    element-due z p = record { most = p .most; done = λ y h. due-ends k w seg r start d e (rw z (p .done y h)); stop = λ y h. due-stops k w seg r start d e (rw z (p .stop y h)); same = p .same }
