@@ -25,8 +25,9 @@ module _ {x s l : List ℕ} {r : ℕ} (w : Writes x s r l) where
   pub room : (y : List ℕ) → length (x ++ y) ≤ length s → length y ≤ length (take (length l - r) (drop r l))
   room y h = rw (rest r l, length-drop r l, same) (omega (arith, w .count, length-append x y))
 
-  pub below : (y : List ℕ) → length (x ++ y) ≤ length s → r + length y ≤ length s
-  below y h = omega (arith, w .count, length-append x y)
+  -- the byte behind x lies in the part
+  pub slot : (b : ℕ) → length (x ++ (b ∷ [])) ≤ length s → r < length l
+  slot b h = omega (arith, same, w .count, length-append x (b ∷ []))
 
   -- one byte more is stored
   pub byte : (b : ℕ) → length (x ++ (b ∷ [])) ≤ length s → Writes (x ++ (b ∷ [])) s (r + 1) (set l r b)

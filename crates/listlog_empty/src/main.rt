@@ -1,0 +1,4 @@
+// listlog, in the gate on an empty input.
+fn main() {
+    listrun::run();
+}

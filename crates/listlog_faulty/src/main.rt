@@ -1,0 +1,4 @@
+// listlog, in the gate on a gap at the ceiling and a cut record behind it.
+fn main() {
+    listrun::run();
+}
