@@ -1,5 +1,5 @@
 -- What each return of the code comes to, over plain values. Trees in halves are the same trees once their sequences are opened.
-use Prim.Native.Nat.{ℕ, _+_}
+use Prim.Native.Nat.{ℕ}
 use mathlib.Core.Path.{_≡_}
 use mathlib.Core.List.{List}
 use lib.ListN.{getD, set}

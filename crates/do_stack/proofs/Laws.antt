@@ -1,0 +1,118 @@
+-- What each instruction comes to, from what its parts come to.
+use Prim.Native.Nat.{ℕ}
+use mathlib.Core.Path.{_≡_}
+use mathlib.Core.Bool.{true}
+use mathlib.Core.List.{List}
+use lib.Dec.{lit≤}
+use lib.ListN.{getD, set}
+use Rattle.sheet.specs.declared.Bus.{Bus}
+use Rattle.sheet.specs.declared.Address.{Address}
+use Rattle.sheet.specs.declared.Place.{Place}
+use Rattle.sheet.specs.declared.Place.the-variants.{Register, Memory}
+use Rattle.sheet.specs.declared.Spot.{Spot}
+use Rattle.sheet.specs.declared.Stack.{Stack}
+use Rattle.sheet.specs.declared.Stack.the-variants.{Push, PushByte, PushWord, PushSegment, PushPsw, PushR, Pop, PopSegment, PopPsw, PopR, Prepare, Dispose}
+use Rattle.sheet.specs.Width.{sub16}
+use Rattle.sheet.specs.Psw.{flagOf, pack, restored, settled}
+use Rattle.sheet.specs.Registers.{SP, SS, PSW, fileOf, segment, readReg}
+use Rattle.sheet.specs.Act.{_≔_}
+use Rattle.sheet.specs.Handler.{_⊕_}
+use Rattle.sheet.specs.Operand.{locate, deposit, valueAt}
+use Rattle.sheet.specs.Traps.{push, pop}
+use Rattle.sheet.specs.Stack.{pushRegister, pushPlace, pushSegment, pushPsw, pushR, popPlace, popSegment, popPsw, popR, prepare, dispose, stack}
+use Rattle.sheet.specs.Contract.{OnFile, OnMemory}
+use Rattle.sheet.proofs.Lifted.{file-registers, file-set, file-flags, file-psw, memory-seq, memory-free, memory-last, memory-at-most}
+use Rattle.memory.specs.Accesses.{Stores}
+use Rattle.do_stack.specs.Held.{pushHeld}
+
+module _ (f g ram ram′ rom : List ℕ) where
+  pub push-register-is : (n x ss sp v : ℕ) (m : Bus) → x ≡ sub16 (getD f SP 0) 2 → ss ≡ getD (set f SP x) SS 0 → sp ≡ getD (set f SP x) SP 0 → v ≡ readReg true (fileOf (set f SP x)) n
+      → Stores true ram ss sp v ram′ m → OnMemory Unit (pushRegister n) f ram rom tt (set f SP x) ram′ m 2
+  unfolding pushRegister readReg
+  push-register-is n x ss sp v m e q k z h =
+      memory-free _ file-registers (rw (← e) (memory-free _ (file-set SP x) (memory-free _ file-registers (rw (← z, ← q, ← k) (h .at (set f SP x) rom)))))
+
+  pub push-held-is : (from : Place) (v : ℕ) (n m : Bus) → OnMemory ℕ (valueAt true from) f ram rom v f ram n 2 → OnMemory Unit (push v) f ram rom tt g ram′ m 2
+      → OnMemory Unit (pushHeld from) f ram rom tt g ram′ (n ⊕ m) 4
+  unfolding pushHeld
+  push-held-is from v n m p q = memory-seq _ {t = 2} {u = 2} p q
+
+  pub at-register : (from : Place) (r : ℕ) (n : Bus) → from ≡ Register r → OnMemory Unit (pushRegister r) f ram rom tt g ram′ n 2 → OnMemory Unit (pushPlace from) f ram rom tt g ram′ n 4
+  unfolding pushPlace
+  at-register from r n e h = rw e (memory-at-most {t = 2} 4 (lit≤ tt) h)
+
+  pub at-memory : (from p : Place) (a : Address) (n : Bus) → from ≡ Memory a → p ≡ Memory a → OnMemory Unit (pushHeld p) f ram rom tt g ram′ n 4 → OnMemory Unit (pushPlace from) f ram rom tt g ram′ n 4
+  unfolding pushPlace pushHeld
+  at-memory from p a n e q h = rw e (rw q at h)
+
+  pub push-segment-is : (seg v : ℕ) (n : Bus) → v ≡ fileOf f (segment seg) → OnMemory Unit (push v) f ram rom tt g ram′ n 2 → OnMemory Unit (pushSegment seg) f ram rom tt g ram′ n 2
+  unfolding pushSegment
+  push-segment-is seg v n e h = memory-free _ file-registers (rw (← e) h)
+
+  pub push-psw-is : (x : ℕ) (n : Bus) → x ≡ getD f PSW 0 → OnMemory Unit (push x) f ram rom tt g ram′ n 2 → OnMemory Unit pushPsw f ram rom tt g ram′ n 2
+  unfolding pushPsw
+  push-psw-is x n e h = memory-free _ (file-psw true) (rw (← e) h)
+
+  pub pop-place-is : (to : Place) (v : ℕ) (s : Spot) (h : List ℕ) (n m : Bus) → OnMemory ℕ pop f ram rom v h ram n 2 → OnFile Spot (locate to) h s h
+      → OnMemory Unit (deposit true s v) h ram rom tt g ram′ m 2 → OnMemory Unit (popPlace to) f ram rom tt g ram′ (n ⊕ m) 4
+  unfolding popPlace
+  pop-place-is to v s h n m p q k = memory-seq _ {t = 2} {u = 2} p (memory-free _ q k)
+
+  pub pop-segment-is : (seg v : ℕ) (h : List ℕ) (n : Bus) → OnMemory ℕ pop f ram rom v h ram n 2 → OnFile Unit (segment seg ≔ v) h tt g → OnMemory Unit (popSegment seg) f ram rom tt g ram n 2
+  unfolding popSegment
+  pop-segment-is seg v h n p q = memory-last _ p q
+
+  pub pop-psw-is : (v x : ℕ) (n : Bus) → OnMemory ℕ pop f ram rom v g ram n 2 → x ≡ pack (flagOf v) → OnMemory Unit popPsw f ram rom tt (set g PSW x) ram n 2
+  unfolding popPsw settled
+  pop-psw-is v x n p e = memory-last _ p (file-flags (restored v) e)
+
+-- ---- the group
+
+module _ (i : Stack) (f g ram ram′ rom : List ℕ) (n : Bus) where
+  pub at-push : (from : Place) → i ≡ Push from → OnMemory Unit (pushPlace from) f ram rom tt g ram′ n 4 → OnMemory Unit (stack i) f ram rom tt g ram′ n 1020
+  unfolding stack
+  at-push from e h = rw e (memory-at-most {t = 4} 1020 (lit≤ tt) h)
+
+  pub at-push-byte : (v : ℕ) → i ≡ PushByte v → OnMemory Unit (push v) f ram rom tt g ram′ n 2 → OnMemory Unit (stack i) f ram rom tt g ram′ n 1020
+  unfolding stack
+  at-push-byte v e h = rw e (memory-at-most {t = 2} 1020 (lit≤ tt) h)
+
+  pub at-push-word : (v : ℕ) → i ≡ PushWord v → OnMemory Unit (push v) f ram rom tt g ram′ n 2 → OnMemory Unit (stack i) f ram rom tt g ram′ n 1020
+  unfolding stack
+  at-push-word v e h = rw e (memory-at-most {t = 2} 1020 (lit≤ tt) h)
+
+  pub at-push-segment : (seg : ℕ) → i ≡ PushSegment seg → OnMemory Unit (pushSegment seg) f ram rom tt g ram′ n 2 → OnMemory Unit (stack i) f ram rom tt g ram′ n 1020
+  unfolding stack
+  at-push-segment seg e h = rw e (memory-at-most {t = 2} 1020 (lit≤ tt) h)
+
+  pub at-push-psw : i ≡ PushPsw → OnMemory Unit pushPsw f ram rom tt g ram′ n 2 → OnMemory Unit (stack i) f ram rom tt g ram′ n 1020
+  unfolding stack
+  at-push-psw e h = rw e (memory-at-most {t = 2} 1020 (lit≤ tt) h)
+
+  pub at-push-r : i ≡ PushR → OnMemory Unit pushR f ram rom tt g ram′ n 16 → OnMemory Unit (stack i) f ram rom tt g ram′ n 1020
+  unfolding stack
+  at-push-r e h = rw e (memory-at-most {t = 16} 1020 (lit≤ tt) h)
+
+  pub at-pop : (to : Place) → i ≡ Pop to → OnMemory Unit (popPlace to) f ram rom tt g ram′ n 4 → OnMemory Unit (stack i) f ram rom tt g ram′ n 1020
+  unfolding stack
+  at-pop to e h = rw e (memory-at-most {t = 4} 1020 (lit≤ tt) h)
+
+  pub at-pop-segment : (seg : ℕ) → i ≡ PopSegment seg → OnMemory Unit (popSegment seg) f ram rom tt g ram′ n 2 → OnMemory Unit (stack i) f ram rom tt g ram′ n 1020
+  unfolding stack
+  at-pop-segment seg e h = rw e (memory-at-most {t = 2} 1020 (lit≤ tt) h)
+
+  pub at-pop-psw : i ≡ PopPsw → OnMemory Unit popPsw f ram rom tt g ram′ n 2 → OnMemory Unit (stack i) f ram rom tt g ram′ n 1020
+  unfolding stack
+  at-pop-psw e h = rw e (memory-at-most {t = 2} 1020 (lit≤ tt) h)
+
+  pub at-pop-r : i ≡ PopR → OnMemory Unit popR f ram rom tt g ram′ n 16 → OnMemory Unit (stack i) f ram rom tt g ram′ n 1020
+  unfolding stack
+  at-pop-r e h = rw e (memory-at-most {t = 16} 1020 (lit≤ tt) h)
+
+  pub at-prepare : (size level : ℕ) → i ≡ Prepare size level → OnMemory Unit (prepare size level) f ram rom tt g ram′ n 1020 → OnMemory Unit (stack i) f ram rom tt g ram′ n 1020
+  unfolding stack
+  at-prepare size level e h = rw e h
+
+  pub at-dispose : i ≡ Dispose → OnMemory Unit dispose f ram rom tt g ram′ n 2 → OnMemory Unit (stack i) f ram rom tt g ram′ n 1020
+  unfolding stack
+  at-dispose e h = rw e (memory-at-most {t = 2} 1020 (lit≤ tt) h)

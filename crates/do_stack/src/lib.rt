@@ -1,0 +1,100 @@
+// PUSH, POP, PREPARE, DISPOSE.
+use registers::PSW;
+use registers::SP;
+use registers::SS;
+use sheet::Bus;
+use sheet::Place;
+use sheet::Stack;
+ghost use Rattle.sheet.specs.Stack as tree;
+ghost use Rattle.sheet.specs.Contract.{OnMemory};
+ghost use Rattle.do_stack.specs.Held.{pushHeld};
+
+// SP falls before the register is read.
+fn push_register(file: &mut [u16; 14], ram: &mut [u8], rom: &[u8], n: u8) -> Bus
+    ensures { λ r. ⌜ OnMemory Unit (tree.pushRegister n) (now (file .entry)) (now (ram .entry)) (now (rom .entry)) tt (now (file .exit)) (now (ram .exit)) r 2 ⌝ }
+{
+    file[SP] = word::minus16(file[SP], 2);
+    let ss = file[SS];
+    let sp = file[SP];
+    let v = registers::reg(true, file, n);
+    memory::store(true, ram, ss, sp, v)
+}
+
+fn push_held(file: &mut [u16; 14], ram: &mut [u8], rom: &[u8], from: Place) -> Bus
+    ensures { λ r. ⌜ OnMemory Unit (pushHeld from) (now (file .entry)) (now (ram .entry)) (now (rom .entry)) tt (now (file .exit)) (now (ram .exit)) r 4 ⌝ }
+{
+    let v = operand::value_at(true, file, ram, rom, from);
+    let b = traps::push(file, ram, rom, v.value);
+    Bus {
+        cycles: v.bus.cycles + b.cycles,
+    }
+}
+
+fn push_place(file: &mut [u16; 14], ram: &mut [u8], rom: &[u8], from: Place) -> Bus
+    ensures { λ r. ⌜ OnMemory Unit (tree.pushPlace from) (now (file .entry)) (now (ram .entry)) (now (rom .entry)) tt (now (file .exit)) (now (ram .exit)) r 4 ⌝ }
+{
+    match from {
+        Place::Register(n) => push_register(file, ram, rom, n),
+        Place::Memory(a) => push_held(file, ram, rom, from),
+    }
+}
+
+fn push_segment(file: &mut [u16; 14], ram: &mut [u8], rom: &[u8], seg: u8) -> Bus
+    ensures { λ r. ⌜ OnMemory Unit (tree.pushSegment seg) (now (file .entry)) (now (ram .entry)) (now (rom .entry)) tt (now (file .exit)) (now (ram .exit)) r 2 ⌝ }
+{
+    let v = registers::base(file, seg);
+    traps::push(file, ram, rom, v)
+}
+
+fn push_psw(file: &mut [u16; 14], ram: &mut [u8], rom: &[u8]) -> Bus
+    ensures { λ r. ⌜ OnMemory Unit tree.pushPsw (now (file .entry)) (now (ram .entry)) (now (rom .entry)) tt (now (file .exit)) (now (ram .exit)) r 2 ⌝ }
+{
+    let x = file[PSW];
+    traps::push(file, ram, rom, x)
+}
+
+fn pop_place(file: &mut [u16; 14], ram: &mut [u8], rom: &[u8], to: Place) -> Bus
+    ensures { λ r. ⌜ OnMemory Unit (tree.popPlace to) (now (file .entry)) (now (ram .entry)) (now (rom .entry)) tt (now (file .exit)) (now (ram .exit)) r 4 ⌝ }
+{
+    let v = traps::pop(file, ram, rom);
+    let spot = operand::locate(file, to);
+    let b = operand::deposit(true, file, ram, rom, spot, v.value);
+    Bus {
+        cycles: v.bus.cycles + b.cycles,
+    }
+}
+
+fn pop_segment(file: &mut [u16; 14], ram: &[u8], rom: &[u8], seg: u8) -> Bus
+    ensures { λ r. ⌜ OnMemory Unit (tree.popSegment seg) (now (file .entry)) (now (ram .entry)) (now (rom .entry)) tt (now (file .exit)) (now (ram .entry)) r 2 ⌝ }
+{
+    let v = traps::pop(file, ram, rom);
+    registers::set_base(file, seg, v.value);
+    v.bus
+}
+
+fn pop_psw(file: &mut [u16; 14], ram: &[u8], rom: &[u8]) -> Bus
+    ensures { λ r. ⌜ OnMemory Unit tree.popPsw (now (file .entry)) (now (ram .entry)) (now (rom .entry)) tt (now (file .exit)) (now (ram .entry)) r 2 ⌝ }
+{
+    let x = traps::pop(file, ram, rom);
+    file[PSW] = psw::restore(x.value);
+    x.bus
+}
+
+pub fn stack(file: &mut [u16; 14], ram: &mut [u8], rom: &[u8], i: Stack) -> Bus
+    ensures { λ r. ⌜ OnMemory Unit (tree.stack i) (now (file .entry)) (now (ram .entry)) (now (rom .entry)) tt (now (file .exit)) (now (ram .exit)) r 1020 ⌝ }
+{
+    match i {
+        Stack::Push { from } => push_place(file, ram, rom, from),
+        Stack::PushByte { value } => traps::push(file, ram, rom, value),
+        Stack::PushWord { value } => traps::push(file, ram, rom, value),
+        Stack::PushSegment { seg } => push_segment(file, ram, rom, seg),
+        Stack::PushPsw => push_psw(file, ram, rom),
+        Stack::PushR => do_eight::push_r(file, ram, rom),
+        Stack::Pop { to } => pop_place(file, ram, rom, to),
+        Stack::PopSegment { seg } => pop_segment(file, ram, rom, seg),
+        Stack::PopPsw => pop_psw(file, ram, rom),
+        Stack::PopR => do_eight::pop_r(file, ram, rom),
+        Stack::Prepare { size, level } => do_frame::prepare(file, ram, rom, size, level),
+        Stack::Dispose => do_frame::dispose(file, ram, rom),
+    }
+}
