@@ -1,0 +1,118 @@
+-- What each instruction comes to, from what its parts come to.
+use Prim.Native.Nat.{ℕ, suc, _-_, _≤_, _<_}
+use mathlib.Core.Path.{_≡_, refl, sym, _∙_}
+use mathlib.Core.Bool.{Bool, true, false}
+use mathlib.Core.List.{List}
+use native.Mathlib.Omega.{arith}
+use borrow.Author.Tests.{ltb-true, ltb-false, lt-ltb, le-ltb}
+use lib.Dec.{ltb, lit≤}
+use lib.IntN.{negsuc}
+use lib.ListN.{getD, set}
+use lib.Signed.{ltZ}
+use mir.Syntax.{w16}
+use mir.Val.{Fits}
+use Rattle.sheet.specs.declared.Bus.{Bus}
+use Rattle.sheet.specs.declared.Address.{Address}
+use Rattle.sheet.specs.declared.Interrupt.{Interrupt}
+use Rattle.sheet.specs.declared.Interrupt.the-variants.{Brk3, Brk, Brkv, Reti, Chkind}
+use Rattle.sheet.specs.Width.{add16, signedOf}
+use Rattle.sheet.specs.Psw.{OV, flagOf, pack, restored, settled}
+use Rattle.sheet.specs.Registers.{PS, PC, PSW, fileOf, readReg}
+use Rattle.sheet.specs.Handler.{nothing, _⊕_}
+use Rattle.sheet.specs.Operand.{regValue, pairAt}
+use Rattle.sheet.specs.Traps.{pop, trap}
+use Rattle.sheet.specs.Interrupts.{brk, trapIf, brkv, reti, outside, chkind, interrupts}
+use Rattle.sheet.specs.Execute.{untrapped}
+use Rattle.sheet.specs.Contract.{OnMemory}
+use Rattle.sheet.proofs.Lifted.{file-seq, file-pure, file-registers, file-set, file-flag, file-flags, memory-seq, memory-free, memory-last, memory-at-most, memory-true, memory-false, on-memory}
+use Rattle.signed.proofs.ReadBack.{read-pos, read-negsuc}
+
+-- ---- signed numbers in their order
+
+read-neg : (x : ℕ) → 32768 ≤ x → x < 65536 → signedOf 32768 x ≡ negsuc (65535 - x)
+read-neg x l h =
+    let e : 65536 - suc (65535 - x) ≡ x = omega arith in
+    rw e at (read-negsuc 32768 (65535 - x) (omega arith))
+
+agree : (x y c d : ℕ) (t : Bool) → ltb c d ≡ t → (c < d → x < y) → (d ≤ c → y ≤ x) → ltb x y ≡ ltb c d
+agree x y c d true e p q = lt-ltb x y (p (ltb-true c d e)) ∙ sym e
+agree x y c d false e p q = le-ltb x y (q (ltb-false c d e)) ∙ sym e
+
+-- by the signs of the two
+less-by : (s t : Bool) (a b : ℕ) → ltb a 32768 ≡ s → ltb b 32768 ≡ t → a < 65536 → b < 65536 → ltb (add16 a 32768) (add16 b 32768) ≡ ltZ (signedOf 32768 a) (signedOf 32768 b)
+less-by true true a b e q h k =
+    let l = ltb-true a 32768 e in
+    let m = ltb-true b 32768 q in
+    rw (read-pos 32768 a l, read-pos 32768 b m) (agree (add16 a 32768) (add16 b 32768) a b (ltb a b) refl (λ z. omega arith) (λ z. omega arith))
+less-by true false a b e q h k =
+    let l = ltb-true a 32768 e in
+    let m = ltb-false b 32768 q in
+    rw (read-pos 32768 a l, read-neg b m k) (le-ltb (add16 a 32768) (add16 b 32768) (omega arith))
+less-by false true a b e q h k =
+    let l = ltb-false a 32768 e in
+    let m = ltb-true b 32768 q in
+    rw (read-neg a l h, read-pos 32768 b m) (lt-ltb (add16 a 32768) (add16 b 32768) (omega arith))
+less-by false false a b e q h k =
+    let l = ltb-false a 32768 e in
+    let m = ltb-false b 32768 q in
+    rw (read-neg a l h, read-neg b m k)
+    (agree (add16 a 32768) (add16 b 32768) (65535 - b) (65535 - a) (ltb (65535 - b) (65535 - a)) refl (λ z. omega arith) (λ z. omega arith))
+
+pub less-is : (a b x y : ℕ) → Fits w16 a → Fits w16 b → x ≡ add16 a 32768 → y ≡ add16 b 32768 → ltb x y ≡ ltZ (signedOf 32768 a) (signedOf 32768 b)
+less-is a b x y p q e z = rw (e, z) (less-by (ltb a 32768) (ltb b 32768) a b refl refl (p .fits) (q .fits))
+
+-- ---- instructions
+
+module _ (f g ram ram′ rom : List ℕ) where
+  pub brk-is : (v : ℕ) (n : Bus) → OnMemory Unit (trap v) f ram rom tt g ram′ n 8 → OnMemory Bool (brk v) f ram rom true g ram′ n 8
+  unfolding brk
+  brk-is v n h = memory-last _ h file-pure
+
+  pub traps : (b t : Bool) (v : ℕ) (n : Bus) → b ≡ true → OnMemory Bool (brk v) f ram rom t g ram′ n 8 → OnMemory Bool (trapIf b v) f ram rom t g ram′ n 8
+  unfolding trapIf
+  traps b t v n e h = memory-true _ _ e h
+
+  pub goes-on : (b : Bool) (v : ℕ) → b ≡ false → OnMemory Bool (trapIf b v) f ram rom false f ram nothing 8
+  unfolding trapIf
+  goes-on b v e = memory-false _ _ e (on-memory ram rom 8 file-pure)
+
+  pub brkv-is : (b t : Bool) (n : Bus) → b ≡ flagOf (getD f PSW 0) OV → OnMemory Bool (trapIf b 4) f ram rom t g ram′ n 8 → OnMemory Bool brkv f ram rom t g ram′ n 8
+  unfolding brkv
+  brkv-is b t n e h = memory-free _ (file-flag OV) (rw (← e) h)
+
+  pub reti-is : (pc ps x y : ℕ) (g₁ g₂ : List ℕ) (n m k : Bus) → OnMemory ℕ pop f ram rom pc g₁ ram n 2 → OnMemory ℕ pop g₁ ram rom ps g₂ ram m 2 → OnMemory ℕ pop g₂ ram rom x g ram k 2
+      → y ≡ pack (flagOf x) → OnMemory Bool (untrapped reti) f ram rom false (set (set (set g PC pc) PS ps) PSW y) ram (n ⊕ (m ⊕ k)) 6
+  unfolding untrapped reti settled
+  reti-is pc ps x y g₁ g₂ n m k p q r e =
+      memory-last _
+      (memory-seq _ {t = 2} {u = 4} p
+      (memory-seq _ {t = 2} {u = 2} q (memory-last _ r (file-seq _ (file-set PC pc) (file-seq _ (file-set PS ps) (file-flags (restored x) e))))))
+      file-pure
+
+  pub chkind-is : (reg : ℕ) (from : Address) (x y v : ℕ) (b t : Bool) (n m : Bus) → OnMemory (ℕ × ℕ) (pairAt from) f ram rom ((x, y)) f ram n 4 → v ≡ readReg true (fileOf f) reg
+      → b ≡ outside v x y → OnMemory Bool (trapIf b 5) f ram rom t g ram′ m 8 → OnMemory Bool (chkind reg from) f ram rom t g ram′ (n ⊕ m) 12
+  unfolding chkind regValue
+  chkind-is reg from x y v b t n m p e q k = memory-seq _ {t = 4} {u = 8} p (memory-free _ (file-seq _ file-registers file-pure) (rw (← e, ← q) k))
+
+-- ---- the group
+
+module _ (i : Interrupt) (f g ram ram′ rom : List ℕ) (t : Bool) (n : Bus) where
+  pub at-brk3 : i ≡ Brk3 → OnMemory Bool (brk 3) f ram rom t g ram′ n 8 → OnMemory Bool (interrupts i) f ram rom t g ram′ n 12
+  unfolding interrupts
+  at-brk3 e h = rw e (memory-at-most {t = 8} 12 (lit≤ tt) h)
+
+  pub at-brk : (v : ℕ) → i ≡ Brk v → OnMemory Bool (brk v) f ram rom t g ram′ n 8 → OnMemory Bool (interrupts i) f ram rom t g ram′ n 12
+  unfolding interrupts
+  at-brk v e h = rw e (memory-at-most {t = 8} 12 (lit≤ tt) h)
+
+  pub at-brkv : i ≡ Brkv → OnMemory Bool brkv f ram rom t g ram′ n 8 → OnMemory Bool (interrupts i) f ram rom t g ram′ n 12
+  unfolding interrupts
+  at-brkv e h = rw e (memory-at-most {t = 8} 12 (lit≤ tt) h)
+
+  pub at-reti : i ≡ Reti → OnMemory Bool (untrapped reti) f ram rom t g ram′ n 6 → OnMemory Bool (interrupts i) f ram rom t g ram′ n 12
+  unfolding interrupts untrapped
+  at-reti e h = rw e (memory-at-most {t = 6} 12 (lit≤ tt) h)
+
+  pub at-chkind : (reg : ℕ) (a : Address) → i ≡ Chkind reg a → OnMemory Bool (chkind reg a) f ram rom t g ram′ n 12 → OnMemory Bool (interrupts i) f ram rom t g ram′ n 12
+  unfolding interrupts
+  at-chkind reg a e h = rw e h
