@@ -4,6 +4,7 @@ use mathlib.Core.Path.{_≡_, refl}
 use mathlib.Core.Bool.{Bool, true, false}
 use mathlib.Core.List.{List}
 use native.Mathlib.Omega.{arith}
+use lib.ListN.{getD}
 use Rattle.sheet.specs.declared.Bus.{Bus}
 use Rattle.sheet.specs.declared.Index.{Index}
 use Rattle.sheet.specs.declared.Index.the-variants.{Of, Nothing}
@@ -19,7 +20,7 @@ use Rattle.sheet.specs.declared.Source.the-variants.{Held, Immediate}
 use Rattle.sheet.specs.declared.Spot.{Spot}
 use Rattle.sheet.specs.declared.Spot.the-variants.{InRegister, InMemory}
 use Rattle.sheet.specs.Width.{add16}
-use Rattle.sheet.specs.Registers.{fileOf, segment, readReg}
+use Rattle.sheet.specs.Registers.{CW, fileOf, segment, readReg}
 use Rattle.sheet.specs.Handler.{nothing, _⊕_}
 use Rattle.sheet.specs.Operand.{indexOf, formAt, formOffset, offsetOf, baseOf, regValue, setReg, locate, fetch, deposit, valueAt, sourceValue, pairAt, amountOf}
 use Rattle.sheet.specs.Contract.{OnFile, OnMemory}
@@ -99,8 +100,8 @@ unfolding pairAt
 pair-is a f ram rom g o q x y n m e h k u v =
     memory-free _ file-registers (rw (← e, ← h, ← k) (memory-seq _ (u .at f) (memory-last _ (v .at f) file-pure)))
 
-pub amount-cl : (a : Amount) (f : List ℕ) (v : ℕ) → a ≡ InCl → v ≡ readReg false (fileOf f) 1 → OnFile ℕ (amountOf a) f v f
-unfolding amountOf regValue
+pub amount-cl : (a : Amount) (f : List ℕ) (v : ℕ) → a ≡ InCl → v ≡ getD f CW 0 % 256 → OnFile ℕ (amountOf a) f v f
+unfolding amountOf regValue readReg
 amount-cl a f v e q = rw (e, q) (file-seq _ file-registers file-pure)
 
 pub amount-given : (a : Amount) (f : List ℕ) (n : ℕ) → a ≡ Given n → OnFile ℕ (amountOf a) f n f

@@ -1,5 +1,6 @@
 // Operands in code: where they stand, how they are read and written.
 use memory::Loaded;
+use registers::CW;
 use sheet::Address;
 use sheet::Amount;
 use sheet::Bus;
@@ -146,11 +147,11 @@ pub fn pair_at(file: &[u16; 14], ram: &[u8], rom: &[u8], a: Address) -> Pair
 }
 
 // A number in CL or given.
-pub fn amount(file: &[u16; 14], a: Amount) -> u16
+pub fn amount(file: &[u16; 14], a: Amount) -> u8
     ensures { λ r. ⌜ OnFile ℕ (tree.amountOf a) (now (file .entry)) r (now (file .entry)) ⌝ }
 {
     match a {
-        Amount::InCl => registers::reg(false, file, 1),
-        Amount::Given(n) => n as u16,
+        Amount::InCl => (file[CW] % 256) as u8,
+        Amount::Given(n) => n,
     }
 }

@@ -78,6 +78,6 @@ pub fn base(file: &[u16; 14], seg: u8) -> u16
 pub fn set_base(file: &mut [u16; 14], seg: u8, v: u16)
     ensures { λ _. ⌜ OnFile Unit (_≔_ (segment seg) v) (now (file .entry)) tt (now (file .exit)) ⌝ }
 {
-    let i = 8 + (seg % 4) as usize;
-    file[i] = v;
+    let at = 8 + (seg % 4) as usize;
+    file[at] = v;
 }

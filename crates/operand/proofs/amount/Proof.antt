@@ -11,4 +11,5 @@ returns-2 c = search (amount-given, needs)
 
 pub amount-spec : {M : Type 1} → statement M
 amount-spec =
-    tie.close (tie.spec (λ c. search needs) (λ c κs. search needs) (λ c. search needs) (λ c. search needs) returns returns-2)
+    tie.close
+    (tie.spec (λ c. search needs) (λ c. search needs) (λ c. search needs) (λ c. search needs) returns returns-2)

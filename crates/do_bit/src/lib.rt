@@ -1,0 +1,74 @@
+// TEST1, CLR1, SET1, NOT1 on one bit of an operand.
+use registers::PSW;
+use sheet::Amount;
+use sheet::Bit;
+use sheet::Bus;
+use sheet::Place;
+use sheet::Spot;
+ghost use mathlib.Core.Path.{_≡_};
+ghost use Rattle.sheet.specs.Operand.{deposit};
+ghost use Rattle.sheet.specs.Bits as tree;
+ghost use Rattle.sheet.specs.Contract.{OnMemory};
+
+// Writes x with its bit n as given.
+fn write_bit(
+    file: &mut [u16; 14],
+    ram: &mut [u8],
+    rom: &[u8],
+    word: bool,
+    spot: Spot,
+    x: u16,
+    n: u8,
+    b: bool,
+) -> Bus
+    ensures { λ r. ⌜ OnMemory Unit (deposit word spot (tree.withBit x (tree.bitNumber word n) b)) (now (file .entry)) (now (ram .entry)) (now (rom .entry)) tt (now (file .exit)) (now (ram .exit)) r 2 ⌝ }
+{
+    let v = bits::with_bit(word, x, n, b);
+    operand::deposit(word, file, ram, rom, spot, v)
+}
+
+fn bit_done(
+    file: &mut [u16; 14],
+    ram: &mut [u8],
+    rom: &[u8],
+    op: Bit,
+    word: bool,
+    spot: Spot,
+    x: u16,
+    n: u8,
+) -> Bus
+    ensures { λ r. ⌜ OnMemory Unit (tree.bitDone op word spot x (tree.bitNumber word n)) (now (file .entry)) (now (ram .entry)) (now (rom .entry)) tt (now (file .exit)) (now (ram .exit)) r 2 ⌝ }
+{
+    match op {
+        Bit::Test1 => {
+            file[PSW] = bits::after_test(word, x, n, file[PSW]);
+            Bus { cycles: 0 }
+        }
+        Bit::Clr1 => write_bit(file, ram, rom, word, spot, x, n, false),
+        Bit::Set1 => write_bit(file, ram, rom, word, spot, x, n, true),
+        Bit::Not1 => {
+            let b = bits::bit_at(word, x, n);
+            write_bit(file, ram, rom, word, spot, x, n, !b)
+        }
+    }
+}
+
+pub fn bits(
+    file: &mut [u16; 14],
+    ram: &mut [u8],
+    rom: &[u8],
+    op: Bit,
+    word: bool,
+    to: Place,
+    number: Amount,
+) -> Bus
+    ensures { λ r. ⌜ OnMemory Unit (tree.bits op word to number) (now (file .entry)) (now (ram .entry)) (now (rom .entry)) tt (now (file .exit)) (now (ram .exit)) r 4 ⌝ }
+{
+    let n = operand::amount(file, number);
+    let spot = operand::locate(file, to);
+    let x = operand::fetch(word, file, ram, rom, spot);
+    let b = bit_done(file, ram, rom, op, word, spot, x.value, n);
+    Bus {
+        cycles: x.bus.cycles + b.cycles,
+    }
+}

@@ -1,0 +1,93 @@
+// Shifts and rotates of an operand.
+use registers::PSW;
+use sheet::Amount;
+use sheet::Bus;
+use sheet::Place;
+use sheet::Places;
+use sheet::Shift;
+use sheet::Spot;
+ghost use mathlib.Core.Path.{_≡_};
+ghost use Rattle.sheet.specs.declared.Places.the-variants.{One, Counted};
+ghost use Rattle.sheet.specs.Shift as tree;
+ghost use Rattle.sheet.specs.Contract.{OnMemory};
+
+// The forms whose count is the fixed 1.
+fn by_one(
+    file: &mut [u16; 14],
+    ram: &mut [u8],
+    rom: &[u8],
+    kind: Shift,
+    word: bool,
+    to: Place,
+) -> Bus
+    ensures { λ r. ⌜ OnMemory Unit (tree.shift kind word to One) (now (file .entry)) (now (ram .entry)) (now (rom .entry)) tt (now (file .exit)) (now (ram .exit)) r 4 ⌝ }
+{
+    let spot = operand::locate(file, to);
+    let x = operand::fetch(word, file, ram, rom, spot);
+    let cy = shift::carry_in(kind, file[PSW]);
+    let y = shift::shift_one(kind, word, x.value, cy, file[PSW]);
+    file[PSW] = y.psw;
+    let b = operand::deposit(word, file, ram, rom, spot, y.value);
+    Bus {
+        cycles: x.bus.cycles + b.cycles,
+    }
+}
+
+// x by a count; 0 changes no flag, and x is written all the same.
+fn by_count(
+    file: &mut [u16; 14],
+    ram: &mut [u8],
+    rom: &[u8],
+    kind: Shift,
+    word: bool,
+    spot: Spot,
+    x: u16,
+    n: u8,
+) -> Bus
+    ensures { λ r. ⌜ OnMemory Unit (tree.shiftBy kind word spot x n) (now (file .entry)) (now (ram .entry)) (now (rom .entry)) tt (now (file .exit)) (now (ram .exit)) r 2 ⌝ }
+{
+    if n < 1 {
+        return operand::deposit(word, file, ram, rom, spot, x);
+    }
+    let cy = shift::carry_in(kind, file[PSW]);
+    let y = shift::shift_many(kind, word, n, x, cy, file[PSW]);
+    file[PSW] = y.psw;
+    operand::deposit(word, file, ram, rom, spot, y.value)
+}
+
+fn by_amount(
+    file: &mut [u16; 14],
+    ram: &mut [u8],
+    rom: &[u8],
+    kind: Shift,
+    word: bool,
+    to: Place,
+    count: Amount,
+) -> Bus
+    ensures { λ r. ⌜ OnMemory Unit (tree.shift kind word to (Counted count)) (now (file .entry)) (now (ram .entry)) (now (rom .entry)) tt (now (file .exit)) (now (ram .exit)) r 4 ⌝ }
+{
+    let n = operand::amount(file, count);
+    let spot = operand::locate(file, to);
+    let x = operand::fetch(word, file, ram, rom, spot);
+    let b = by_count(file, ram, rom, kind, word, spot, x.value, n);
+    Bus {
+        cycles: x.bus.cycles + b.cycles,
+    }
+}
+
+pub fn shift(
+    file: &mut [u16; 14],
+    ram: &mut [u8],
+    rom: &[u8],
+    kind: Shift,
+    word: bool,
+    to: Place,
+    places: Places,
+) -> Bus
+    ensures { λ r. ⌜ OnMemory Unit (tree.shift kind word to places) (now (file .entry)) (now (ram .entry)) (now (rom .entry)) tt (now (file .exit)) (now (ram .exit)) r 4 ⌝ }
+{
+    match places {
+        Places::One => by_one(file, ram, rom, kind, word, to),
+        Places::Counted(count) => by_amount(file, ram, rom, kind, word, to, count),
+    }
+}
