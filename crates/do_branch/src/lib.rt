@@ -1,0 +1,102 @@
+// CALL, RET, BR. PC stands on the next instruction when these begin.
+use registers::PC;
+use registers::SP;
+use sheet::Address;
+use sheet::Branch;
+use sheet::Bus;
+use sheet::Place;
+ghost use Rattle.sheet.specs.Branch as tree;
+ghost use Rattle.sheet.specs.Contract.{OnFile, OnMemory};
+
+fn release(file: &mut [u16; 14], size: u16)
+    ensures { λ _. ⌜ OnFile Unit (tree.release size) (now (file .entry)) tt (now (file .exit)) ⌝ }
+{
+    file[SP] = word::plus16(file[SP], size);
+}
+
+fn ret(file: &mut [u16; 14], ram: &[u8], rom: &[u8]) -> Bus
+    ensures { λ r. ⌜ OnMemory Unit tree.ret (now (file .entry)) (now (ram .entry)) (now (rom .entry)) tt (now (file .exit)) (now (ram .entry)) r 2 ⌝ }
+{
+    let pc = traps::pop(file, ram, rom);
+    file[PC] = pc.value;
+    pc.bus
+}
+
+fn ret_pop(file: &mut [u16; 14], ram: &[u8], rom: &[u8], size: u16) -> Bus
+    ensures { λ r. ⌜ OnMemory Unit (tree.retPop size) (now (file .entry)) (now (ram .entry)) (now (rom .entry)) tt (now (file .exit)) (now (ram .entry)) r 2 ⌝ }
+{
+    let b = ret(file, ram, rom);
+    release(file, size);
+    b
+}
+
+fn ret_far(file: &mut [u16; 14], ram: &[u8], rom: &[u8]) -> Bus
+    ensures { λ r. ⌜ OnMemory Unit tree.retFar (now (file .entry)) (now (ram .entry)) (now (rom .entry)) tt (now (file .exit)) (now (ram .entry)) r 4 ⌝ }
+{
+    let pc = traps::pop(file, ram, rom);
+    let ps = traps::pop(file, ram, rom);
+    jumps::jump_far(file, ps.value, pc.value);
+    Bus {
+        cycles: pc.bus.cycles + ps.bus.cycles,
+    }
+}
+
+fn ret_far_pop(file: &mut [u16; 14], ram: &[u8], rom: &[u8], size: u16) -> Bus
+    ensures { λ r. ⌜ OnMemory Unit (tree.retFarPop size) (now (file .entry)) (now (ram .entry)) (now (rom .entry)) tt (now (file .exit)) (now (ram .entry)) r 4 ⌝ }
+{
+    let b = ret_far(file, ram, rom);
+    release(file, size);
+    b
+}
+
+fn br_to(file: &mut [u16; 14], ram: &[u8], rom: &[u8], to: Place) -> Bus
+    ensures { λ r. ⌜ OnMemory Unit (tree.brTo to) (now (file .entry)) (now (ram .entry)) (now (rom .entry)) tt (now (file .exit)) (now (ram .entry)) r 2 ⌝ }
+{
+    let v = operand::value_at(true, file, ram, rom, to);
+    file[PC] = v.value;
+    v.bus
+}
+
+// PS's word is read first.
+fn br_far_at(file: &mut [u16; 14], ram: &[u8], rom: &[u8], at: Address) -> Bus
+    ensures { λ r. ⌜ OnMemory Unit (tree.brFarAt at) (now (file .entry)) (now (ram .entry)) (now (rom .entry)) tt (now (file .exit)) (now (ram .entry)) r 4 ⌝ }
+{
+    let g = operand::base(file, at);
+    let o = operand::offset(file, at);
+    let next = word::plus16(o, 2);
+    let ps = memory::load(true, ram, rom, g, next);
+    let pc = memory::load(true, ram, rom, g, o);
+    jumps::jump_far(file, ps.value, pc.value);
+    Bus {
+        cycles: ps.bus.cycles + pc.bus.cycles,
+    }
+}
+
+pub fn branch(file: &mut [u16; 14], ram: &mut [u8], rom: &[u8], i: Branch) -> Bus
+    ensures { λ r. ⌜ OnMemory Unit (tree.branch i) (now (file .entry)) (now (ram .entry)) (now (rom .entry)) tt (now (file .exit)) (now (ram .exit)) r 8 ⌝ }
+{
+    match i {
+        Branch::CallNear { disp } => do_call::call_near(file, ram, rom, disp),
+        Branch::CallTo { to } => do_call::call_to(file, ram, rom, to),
+        Branch::CallFar { ps, pc } => do_call::call_far(file, ram, rom, ps, pc),
+        Branch::CallFarAt { at } => do_call::call_far_at(file, ram, rom, at),
+        Branch::Ret => ret(file, ram, rom),
+        Branch::RetPop { size } => ret_pop(file, ram, rom, size),
+        Branch::RetFar => ret_far(file, ram, rom),
+        Branch::RetFarPop { size } => ret_far_pop(file, ram, rom, size),
+        Branch::BrNear { disp } => {
+            jumps::jump(file, disp);
+            Bus { cycles: 0 }
+        }
+        Branch::BrShort { disp } => {
+            jumps::jump(file, disp);
+            Bus { cycles: 0 }
+        }
+        Branch::BrTo { to } => br_to(file, ram, rom, to),
+        Branch::BrFar { ps, pc } => {
+            jumps::jump_far(file, ps, pc);
+            Bus { cycles: 0 }
+        }
+        Branch::BrFarAt { at } => br_far_at(file, ram, rom, at),
+    }
+}

@@ -1,0 +1,74 @@
+// CALL. PC stands on the next instruction when it begins.
+use registers::PC;
+use registers::PS;
+use sheet::Address;
+use sheet::Bus;
+use sheet::Place;
+ghost use Rattle.sheet.specs.Branch as tree;
+ghost use Rattle.sheet.specs.Contract.{OnMemory};
+ghost use Rattle.do_call.specs.Calls.{callRegister, callHeld};
+
+fn push_pc(file: &mut [u16; 14], ram: &mut [u8], rom: &[u8]) -> Bus
+    ensures { λ r. ⌜ OnMemory Unit tree.pushPc (now (file .entry)) (now (ram .entry)) (now (rom .entry)) tt (now (file .exit)) (now (ram .exit)) r 2 ⌝ }
+{
+    let pc = file[PC];
+    traps::push(file, ram, rom, pc)
+}
+
+pub fn call_near(file: &mut [u16; 14], ram: &mut [u8], rom: &[u8], disp: u16) -> Bus
+    ensures { λ r. ⌜ OnMemory Unit (tree.callNear disp) (now (file .entry)) (now (ram .entry)) (now (rom .entry)) tt (now (file .exit)) (now (ram .exit)) r 2 ⌝ }
+{
+    let b = push_pc(file, ram, rom);
+    jumps::jump(file, disp);
+    b
+}
+
+// CALL regptr16 reads its register after the push.
+fn call_register(file: &mut [u16; 14], ram: &mut [u8], rom: &[u8], n: u8) -> Bus
+    ensures { λ r. ⌜ OnMemory Unit (callRegister n) (now (file .entry)) (now (ram .entry)) (now (rom .entry)) tt (now (file .exit)) (now (ram .exit)) r 2 ⌝ }
+{
+    let b = push_pc(file, ram, rom);
+    file[PC] = registers::reg(true, file, n);
+    b
+}
+
+// CALL memptr16 reads its memory before the push.
+fn call_held(file: &mut [u16; 14], ram: &mut [u8], rom: &[u8], to: Place) -> Bus
+    ensures { λ r. ⌜ OnMemory Unit (callHeld to) (now (file .entry)) (now (ram .entry)) (now (rom .entry)) tt (now (file .exit)) (now (ram .exit)) r 4 ⌝ }
+{
+    let v = operand::value_at(true, file, ram, rom, to);
+    let b = push_pc(file, ram, rom);
+    file[PC] = v.value;
+    Bus {
+        cycles: v.bus.cycles + b.cycles,
+    }
+}
+
+pub fn call_to(file: &mut [u16; 14], ram: &mut [u8], rom: &[u8], to: Place) -> Bus
+    ensures { λ r. ⌜ OnMemory Unit (tree.callTo to) (now (file .entry)) (now (ram .entry)) (now (rom .entry)) tt (now (file .exit)) (now (ram .exit)) r 4 ⌝ }
+{
+    match to {
+        Place::Register(n) => call_register(file, ram, rom, n),
+        Place::Memory(a) => call_held(file, ram, rom, to),
+    }
+}
+
+pub fn call_far(file: &mut [u16; 14], ram: &mut [u8], rom: &[u8], ps: u16, pc: u16) -> Bus
+    ensures { λ r. ⌜ OnMemory Unit (tree.callFar ps pc) (now (file .entry)) (now (ram .entry)) (now (rom .entry)) tt (now (file .exit)) (now (ram .exit)) r 4 ⌝ }
+{
+    let x = file[PS];
+    let y = file[PC];
+    let b = traps::push_two(file, ram, rom, x, y);
+    jumps::jump_far(file, ps, pc);
+    b
+}
+
+pub fn call_far_at(file: &mut [u16; 14], ram: &mut [u8], rom: &[u8], at: Address) -> Bus
+    ensures { λ r. ⌜ OnMemory Unit (tree.callFarAt at) (now (file .entry)) (now (ram .entry)) (now (rom .entry)) tt (now (file .exit)) (now (ram .exit)) r 8 ⌝ }
+{
+    let p = operand::pair_at(file, ram, rom, at);
+    let b = call_far(file, ram, rom, p.high, p.low);
+    Bus {
+        cycles: p.bus.cycles + b.cycles,
+    }
+}
