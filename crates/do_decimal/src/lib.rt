@@ -1,0 +1,172 @@
+// ADD4S, SUB4S, CMP4S, ROL4, ROR4.
+use registers::CW;
+use registers::DS1;
+use registers::IX;
+use registers::IY;
+use registers::PSW;
+use sheet::Bus;
+use sheet::Chain;
+use sheet::Decimal;
+use sheet::Place;
+ghost use mathlib.Core.Path.{_≡_};
+ghost use Prim.Native.Nat.{_≤_};
+ghost use Rattle.sheet.specs.Psw.{unknown, becomes, columns, column, keeps, settled};
+ghost use Rattle.sheet.specs.Decimal as sheet;
+ghost use Rattle.sheet.specs.Execute as tree;
+ghost use Rattle.sheet.specs.Contract.{OnMemory};
+ghost use Rattle.do_decimal.specs.Chained.{chained};
+ghost use Rattle.do_decimal.specs.Both.{Both};
+
+// What goes on to the next byte, and what the accesses so far came to.
+struct Linked {
+    chain: Chain,
+    bus: Bus,
+}
+
+// A byte of each string, and what reading them came to.
+struct Bytes {
+    to: u16,
+    from: u16,
+    bus: Bus,
+}
+
+// Byte i of the string at DS1:IY, then that of the string at the source segment's IX.
+fn read_both(file: &[u16; 14], ram: &[u8], rom: &[u8], seg: u8, i: u16) -> Bytes
+    ensures { λ r. ⌜ Both (now (file .entry)) (now (ram .entry)) (now (rom .entry)) seg i (r .to) (r .from) (r .bus) ⌝ }
+{
+    let a = memory::load(false, ram, rom, file[DS1], word::plus16(file[IY], i));
+    let b = memory::load(
+        false,
+        ram,
+        rom,
+        registers::base(file, seg),
+        word::plus16(file[IX], i),
+    );
+    Bytes {
+        to: a.value,
+        from: b.value,
+        bus: Bus {
+            cycles: a.bus.cycles + b.bus.cycles,
+        },
+    }
+}
+
+// One byte of the result.
+fn link(
+    file: &[u16; 14],
+    ram: &mut [u8],
+    rom: &[u8],
+    sub: bool,
+    stores: bool,
+    seg: u8,
+    i: u16,
+    c: Chain,
+) -> Linked
+    ensures { λ r. ⌜ OnMemory Chain (sheet.link sub stores seg i c) (now (file .entry)) (now (ram .entry)) (now (rom .entry)) (r .chain) (now (file .entry)) (now (ram .exit)) (r .bus) 3 ⌝ }
+{
+    let x = read_both(file, ram, rom, seg, i);
+    let d = decimal::digits(sub, x.to, x.from, c.cy);
+    let chain = Chain {
+        cy: d.cy,
+        zero: c.zero & (d.value == 0),
+    };
+    let bus = x.bus;
+    if stores {
+        let n = memory::store(false, ram, file[DS1], word::plus16(file[IY], i), d.value);
+        return Linked {
+            chain,
+            bus: Bus {
+                cycles: bus.cycles + n.cycles,
+            },
+        };
+    }
+    Linked { chain, bus }
+}
+
+// The first `last` bytes of the strings, lowest address first.
+fn chained(
+    file: &[u16; 14],
+    ram: &mut [u8],
+    rom: &[u8],
+    sub: bool,
+    stores: bool,
+    seg: u8,
+    last: u16,
+) -> Linked
+    requires { ⌜ last ≤ 128 ⌝ }
+    ensures { λ r. ⌜ OnMemory Chain (chained sub stores seg last) (now (file .entry)) (now (ram .entry)) (now (rom .entry)) (r .chain) (now (file .entry)) (now (ram .exit)) (r .bus) 384 ⌝ }
+{
+    let mut i: u16 = 0;
+    let mut cy = false;
+    let mut zero = true;
+    let mut cycles: u32 = 0;
+    while i < last {
+        let l = link(file, ram, rom, sub, stores, seg, i, Chain { cy, zero });
+        cy = l.chain.cy;
+        zero = l.chain.zero;
+        cycles = cycles + l.bus.cycles;
+        i = i + 1;
+    }
+    Linked {
+        chain: Chain { cy, zero },
+        bus: Bus { cycles },
+    }
+}
+
+// PSW after a string: CY by its last byte, Z by all of them.
+fn string_psw(c: Chain, psw: u16) -> u16
+    ensures { λ r. ⌜ r ≡ settled keeps (column (columns unknown (becomes (c .cy)) unknown unknown unknown (becomes (c .zero)))) psw ⌝ }
+{
+    let f = flags::unpack(psw);
+    psw::affect(f.ac, c.cy, f.v, f.p, f.s, c.zero, psw)
+}
+
+// ADD4S, SUB4S where `sub`, and CMP4S where besides it does not store.
+fn string(file: &mut [u16; 14], ram: &mut [u8], rom: &[u8], sub: bool, stores: bool, seg: u8) -> Bus
+    ensures { λ r. ⌜ OnMemory Unit (sheet.string sub stores seg) (now (file .entry)) (now (ram .entry)) (now (rom .entry)) tt (now (file .exit)) (now (ram .exit)) r 384 ⌝ }
+{
+    let digits = file[CW] % 256;
+    let l = chained(file, ram, rom, sub, stores, seg, (digits + 1) / 2);
+    file[PSW] = string_psw(l.chain, file[PSW]);
+    l.bus
+}
+
+fn rol4(file: &mut [u16; 14], ram: &mut [u8], rom: &[u8], to: Place) -> Bus
+    ensures { λ r. ⌜ OnMemory Unit (sheet.rol4 to) (now (file .entry)) (now (ram .entry)) (now (rom .entry)) tt (now (file .exit)) (now (ram .exit)) r 4 ⌝ }
+{
+    let al = registers::reg(false, file, 0);
+    let spot = operand::locate(file, to);
+    let x = operand::fetch(false, file, ram, rom, spot);
+    let y = decimal::rol4(x.value, al);
+    let b = operand::deposit(false, file, ram, rom, spot, y);
+    registers::set_reg(false, file, 0, decimal::rol4_al(x.value, al));
+    Bus {
+        cycles: x.bus.cycles + b.cycles,
+    }
+}
+
+fn ror4(file: &mut [u16; 14], ram: &mut [u8], rom: &[u8], to: Place) -> Bus
+    ensures { λ r. ⌜ OnMemory Unit (sheet.ror4 to) (now (file .entry)) (now (ram .entry)) (now (rom .entry)) tt (now (file .exit)) (now (ram .exit)) r 4 ⌝ }
+{
+    let al = registers::reg(false, file, 0);
+    let spot = operand::locate(file, to);
+    let x = operand::fetch(false, file, ram, rom, spot);
+    let y = decimal::ror4(x.value, al);
+    let b = operand::deposit(false, file, ram, rom, spot, y);
+    registers::set_reg(false, file, 0, decimal::ror4_al(x.value, al));
+    Bus {
+        cycles: x.bus.cycles + b.cycles,
+    }
+}
+
+pub fn decimal(file: &mut [u16; 14], ram: &mut [u8], rom: &[u8], i: Decimal) -> Bus
+    ensures { λ r. ⌜ OnMemory Unit (tree.decimal i) (now (file .entry)) (now (ram .entry)) (now (rom .entry)) tt (now (file .exit)) (now (ram .exit)) r 384 ⌝ }
+{
+    match i {
+        Decimal::Add4s { seg } => string(file, ram, rom, false, true, seg),
+        Decimal::Sub4s { seg } => string(file, ram, rom, true, true, seg),
+        Decimal::Cmp4s { seg } => string(file, ram, rom, true, false, seg),
+        Decimal::Rol4 { to } => rol4(file, ram, rom, to),
+        Decimal::Ror4 { to } => ror4(file, ram, rom, to),
+    }
+}

@@ -1,0 +1,149 @@
+// INS and EXT.
+use registers::AW;
+use registers::DS1;
+use registers::IX;
+use registers::IY;
+use sheet::Bus;
+use sheet::Field;
+use sheet::Length;
+ghost use mathlib.Core.Path.{_≡_};
+ghost use Prim.Native.Nat.{ℕ, _+_, _%_, _<_};
+ghost use lib.Dec.{leb};
+ghost use Rattle.sheet.specs.Width.{pick, add16};
+ghost use Rattle.sheet.specs.Registers.{fileOf};
+ghost use Rattle.sheet.specs.Fields as sheet;
+ghost use Rattle.sheet.specs.Execute as tree;
+ghost use Rattle.sheet.specs.Contract.{OnFile, OnMemory};
+ghost use Rattle.do_field.specs.Parts.{firstPart, secondPart};
+
+// The length's code, of which the low 4 bits count.
+fn code(file: &[u16; 14], length: Length) -> u16
+    ensures { λ r. ⌜ OnFile ℕ (sheet.lengthOf length) (now (file .entry)) (r % 16 + 1) (now (file .entry)) ⌝ }
+{
+    match length {
+        Length::InRegister(n) => registers::reg(false, file, n),
+        Length::Given(n) => n as u16,
+    }
+}
+
+// Where a field ends, counted from bit 0 of its first word.
+fn end(offset: u16, code: u16) -> u16
+    ensures { λ r. ⌜ r ≡ offset % 16 + (code % 16 + 1) ⌝ }
+{
+    offset % 16 + (code % 16 + 1)
+}
+
+// The index register's word, 2 higher where the next field lies in the next word.
+fn next_word(x: u16, sum: u16) -> u16
+    ensures { λ r. ⌜ r ≡ pick (leb 16 sum) (add16 x 2) x ⌝ }
+{
+    if 16 <= sum { word::plus16(x, 2) } else { x }
+}
+
+// The offset register shows the next field, and so does the index register.
+fn advance(file: &mut [u16; 14], offset: u8, index: usize, sum: u16)
+    requires { ⌜ index < 13 ⌝ }
+    ensures { λ _. ⌜ OnFile Unit (sheet.advance offset index sum) (now (file .entry)) tt (now (file .exit)) ⌝ }
+{
+    registers::set_reg(false, file, offset, sum % 16);
+    file[index] = next_word(file[index], sum);
+}
+
+// What of the field goes into the first word.
+fn first_part(file: &[u16; 14], ram: &mut [u8], rom: &[u8], offset: u16, code: u16) -> Bus
+    ensures { λ r. ⌜ OnMemory Unit (firstPart (fileOf (now (file .entry))) (offset % 16) (code % 16 + 1)) (now (file .entry)) (now (ram .entry)) (now (rom .entry)) tt (now (file .entry)) (now (ram .exit)) r 4 ⌝ }
+{
+    let base = file[DS1];
+    let at = file[IY];
+    let x = memory::load(true, ram, rom, base, at);
+    let y = field::first(x.value, offset, code, file[AW]);
+    let b = memory::store(true, ram, base, at, y);
+    Bus {
+        cycles: x.bus.cycles + b.cycles,
+    }
+}
+
+// What goes into the second, which is not touched where nothing does.
+fn second_part(file: &[u16; 14], ram: &mut [u8], rom: &[u8], offset: u16, code: u16) -> Bus
+    ensures { λ r. ⌜ OnMemory Unit (secondPart (fileOf (now (file .entry))) (offset % 16) (code % 16 + 1)) (now (file .entry)) (now (ram .entry)) (now (rom .entry)) tt (now (file .entry)) (now (ram .exit)) r 4 ⌝ }
+{
+    if 16 < end(offset, code) {
+        let base = file[DS1];
+        let at = word::plus16(file[IY], 2);
+        let x = memory::load(true, ram, rom, base, at);
+        let y = field::second(x.value, offset, code, file[AW]);
+        let b = memory::store(true, ram, base, at, y);
+        return Bus {
+            cycles: x.bus.cycles + b.cycles,
+        };
+    }
+    Bus { cycles: 0 }
+}
+
+fn ins(file: &mut [u16; 14], ram: &mut [u8], rom: &[u8], offset: u8, length: Length) -> Bus
+    ensures { λ r. ⌜ OnMemory Unit (sheet.ins offset length) (now (file .entry)) (now (ram .entry)) (now (rom .entry)) tt (now (file .exit)) (now (ram .exit)) r 8 ⌝ }
+{
+    let o = registers::reg(false, file, offset);
+    let n = code(file, length);
+    let a = first_part(file, ram, rom, o, n);
+    let b = second_part(file, ram, rom, o, n);
+    advance(file, offset, IY, end(o, n));
+    Bus {
+        cycles: a.cycles + b.cycles,
+    }
+}
+
+// One word of memory or two, and what reading came to.
+struct Words {
+    bits: u32,
+    bus: Bus,
+}
+
+// The word at an offset and, where `both`, the next one above it.
+fn window(file: &[u16; 14], ram: &[u8], rom: &[u8], base: u16, offset: u16, both: bool) -> Words
+    ensures { λ r. ⌜ OnMemory ℕ (sheet.window base offset both) (now (file .entry)) (now (ram .entry)) (now (rom .entry)) (r .bits) (now (file .entry)) (now (ram .entry)) (r .bus) 4 ⌝ }
+{
+    let low = memory::load(true, ram, rom, base, offset);
+    if both {
+        let next = word::plus16(offset, 2);
+        let high = memory::load(true, ram, rom, base, next);
+        return Words {
+            bits: low.value as u32 + 65536 * (high.value as u32),
+            bus: Bus {
+                cycles: low.bus.cycles + high.bus.cycles,
+            },
+        };
+    }
+    let bus = low.bus;
+    Words {
+        bits: low.value as u32,
+        bus,
+    }
+}
+
+fn ext(file: &mut [u16; 14], ram: &mut [u8], rom: &[u8], seg: u8, offset: u8, length: Length) -> Bus
+    ensures { λ r. ⌜ OnMemory Unit (sheet.ext seg offset length) (now (file .entry)) (now (ram .entry)) (now (rom .entry)) tt (now (file .exit)) (now (ram .exit)) r 8 ⌝ }
+{
+    let o = registers::reg(false, file, offset);
+    let n = code(file, length);
+    let sum = end(o, n);
+    let base = registers::base(file, seg);
+    let at = file[IX];
+    let x = window(file, ram, rom, base, at, 16 < sum);
+    file[AW] = field::taken(x.bits, o, n);
+    advance(file, offset, IX, sum);
+    x.bus
+}
+
+pub fn field(file: &mut [u16; 14], ram: &mut [u8], rom: &[u8], i: Field) -> Bus
+    ensures { λ r. ⌜ OnMemory Unit (tree.field i) (now (file .entry)) (now (ram .entry)) (now (rom .entry)) tt (now (file .exit)) (now (ram .exit)) r 8 ⌝ }
+{
+    match i {
+        Field::Ins { offset, length } => ins(file, ram, rom, offset, length),
+        Field::Ext {
+            seg,
+            offset,
+            length,
+        } => ext(file, ram, rom, seg, offset, length),
+    }
+}

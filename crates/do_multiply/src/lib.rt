@@ -1,0 +1,177 @@
+// MULU, MUL, DIVU, DIV.
+use registers::AW;
+use registers::DW;
+use registers::PSW;
+use sheet::Bus;
+use sheet::Divided;
+use sheet::Multiply;
+use sheet::Place;
+use sheet::Product;
+ghost use mathlib.Core.Path.{_≡_};
+ghost use mathlib.Core.Bool.{Bool};
+ghost use Rattle.sheet.specs.Registers.{fileOf};
+ghost use Rattle.sheet.specs.Multiply as sheet;
+ghost use Rattle.sheet.specs.Execute as tree;
+ghost use Rattle.sheet.specs.Contract.{OnFile, OnMemory};
+ghost use Rattle.do_multiply.specs.Within.{Held, Within};
+
+// Whether an instruction took a trap itself, and its accesses.
+pub struct Worked {
+    pub trapped: bool,
+    pub bus: Bus,
+}
+
+// A product of bytes goes to AW, one of words to DW and AW.
+fn set_product(file: &mut [u16; 14], word: bool, x: u32)
+    ensures { λ _. ⌜ OnFile Unit (sheet.setProduct word x) (now (file .entry)) tt (now (file .exit)) ⌝ }
+{
+    file[AW] = (x % 65536) as u16;
+    if word {
+        file[DW] = (x / 65536) as u16;
+    }
+}
+
+fn multiplied(file: &mut [u16; 14], word: bool, p: Product)
+    ensures { λ _. ⌜ OnFile Unit (sheet.multiplied word p) (now (file .entry)) tt (now (file .exit)) ⌝ }
+{
+    file[PSW] = multiply::product_psw(p, file[PSW]);
+    set_product(file, word, p.bits);
+}
+
+fn mulu(file: &mut [u16; 14], ram: &[u8], rom: &[u8], word: bool, by: Place) -> Bus
+    ensures { λ r. ⌜ OnMemory Unit (sheet.mulu word by) (now (file .entry)) (now (ram .entry)) (now (rom .entry)) tt (now (file .exit)) (now (ram .entry)) r 2 ⌝ }
+{
+    let b = operand::value_at(word, file, ram, rom, by);
+    let a = registers::reg(word, file, 0);
+    let p = multiply::unsigned_product(word, a, b.value);
+    multiplied(file, word, p);
+    b.bus
+}
+
+fn mul(file: &mut [u16; 14], ram: &[u8], rom: &[u8], word: bool, by: Place) -> Bus
+    ensures { λ r. ⌜ OnMemory Unit (sheet.mul word by) (now (file .entry)) (now (ram .entry)) (now (rom .entry)) tt (now (file .exit)) (now (ram .entry)) r 2 ⌝ }
+{
+    let b = operand::value_at(word, file, ram, rom, by);
+    let a = registers::reg(word, file, 0);
+    let p = multiply::signed_product(word, a, b.value);
+    multiplied(file, word, p);
+    b.bus
+}
+
+// MUL with an immediate: the lower 16 bits alone.
+fn mul_by(file: &mut [u16; 14], ram: &[u8], rom: &[u8], reg: u8, from: Place, by: u16) -> Bus
+    ensures { λ r. ⌜ OnMemory Unit (sheet.mulBy reg from by) (now (file .entry)) (now (ram .entry)) (now (rom .entry)) tt (now (file .exit)) (now (ram .entry)) r 2 ⌝ }
+{
+    let a = operand::value_at(true, file, ram, rom, from);
+    let p = multiply::signed_product(true, a.value, by);
+    file[PSW] = multiply::product_psw(p, file[PSW]);
+    registers::set_reg(true, file, reg, (p.bits % 65536) as u16);
+    a.bus
+}
+
+// AW for bytes, DW and AW for words.
+fn dividend(word: bool, file: &[u16; 14]) -> u32
+    ensures { λ r. ⌜ r ≡ sheet.dividend word (fileOf (now (file .entry))) ⌝ }
+{
+    let low = word::word(file[AW]) as u32;
+    if word {
+        return word::word(file[DW]) as u32 * 65536 + low;
+    }
+    low
+}
+
+// AL and AH for bytes, AW and DW for words.
+fn set_quotient(file: &mut [u16; 14], word: bool, quotient: u16, remainder: u16)
+    requires { ⌜ Held word quotient remainder ⌝ }
+    ensures { λ _. ⌜ OnFile Unit (sheet.setQuotient word quotient remainder) (now (file .entry)) tt (now (file .exit)) ⌝ }
+{
+    if word {
+        file[AW] = quotient;
+        file[DW] = remainder;
+    } else {
+        file[AW] = remainder * 256 + quotient;
+    }
+}
+
+// The quotient and the remainder in their registers, or the trap to vector 0; the flags are undefined after it.
+fn divided(file: &mut [u16; 14], ram: &mut [u8], rom: &[u8], word: bool, d: Divided) -> Worked
+    requires { ⌜ Within word d ⌝ }
+    ensures { λ r. ⌜ OnMemory Bool (sheet.divided word d) (now (file .entry)) (now (ram .entry)) (now (rom .entry)) (r .trapped) (now (file .exit)) (now (ram .exit)) (r .bus) 8 ⌝ }
+{
+    match d {
+        Divided::Quotient {
+            quotient,
+            remainder,
+        } => {
+            set_quotient(file, word, quotient, remainder);
+            file[PSW] = psw::restore(file[PSW]);
+            Worked {
+                trapped: false,
+                bus: Bus { cycles: 0 },
+            }
+        }
+        Divided::Trap => {
+            let b = traps::trap(file, ram, rom, 0);
+            file[PSW] = psw::restore(file[PSW]);
+            Worked {
+                trapped: true,
+                bus: b,
+            }
+        }
+    }
+}
+
+fn divu(file: &mut [u16; 14], ram: &mut [u8], rom: &[u8], word: bool, by: Place) -> Worked
+    ensures { λ r. ⌜ OnMemory Bool (sheet.divu word by) (now (file .entry)) (now (ram .entry)) (now (rom .entry)) (r .trapped) (now (file .exit)) (now (ram .exit)) (r .bus) 10 ⌝ }
+{
+    let b = operand::value_at(word, file, ram, rom, by);
+    let a = dividend(word, file);
+    let d = divide::unsigned_quotient(word, a, b.value);
+    let w = divided(file, ram, rom, word, d);
+    Worked {
+        trapped: w.trapped,
+        bus: Bus {
+            cycles: b.bus.cycles + w.bus.cycles,
+        },
+    }
+}
+
+fn div(file: &mut [u16; 14], ram: &mut [u8], rom: &[u8], word: bool, by: Place) -> Worked
+    ensures { λ r. ⌜ OnMemory Bool (sheet.div word by) (now (file .entry)) (now (ram .entry)) (now (rom .entry)) (r .trapped) (now (file .exit)) (now (ram .exit)) (r .bus) 10 ⌝ }
+{
+    let b = operand::value_at(word, file, ram, rom, by);
+    let a = dividend(word, file);
+    let d = divide::signed_quotient(word, a, b.value);
+    let w = divided(file, ram, rom, word, d);
+    Worked {
+        trapped: w.trapped,
+        bus: Bus {
+            cycles: b.bus.cycles + w.bus.cycles,
+        },
+    }
+}
+
+pub fn multiply(file: &mut [u16; 14], ram: &mut [u8], rom: &[u8], i: Multiply) -> Worked
+    ensures { λ r. ⌜ OnMemory Bool (tree.multiply i) (now (file .entry)) (now (ram .entry)) (now (rom .entry)) (r .trapped) (now (file .exit)) (now (ram .exit)) (r .bus) 10 ⌝ }
+{
+    match i {
+        Multiply::Mulu { word, by } => Worked {
+            trapped: false,
+            bus: mulu(file, ram, rom, word, by),
+        },
+        Multiply::Mul { word, by } => Worked {
+            trapped: false,
+            bus: mul(file, ram, rom, word, by),
+        },
+        Multiply::MulByte { reg, from, by } => Worked {
+            trapped: false,
+            bus: mul_by(file, ram, rom, reg, from, by),
+        },
+        Multiply::MulWord { reg, from, by } => Worked {
+            trapped: false,
+            bus: mul_by(file, ram, rom, reg, from, by),
+        },
+        Multiply::Divu { word, by } => divu(file, ram, rom, word, by),
+        Multiply::Div { word, by } => div(file, ram, rom, word, by),
+    }
+}
