@@ -5,7 +5,6 @@ use sheet::Bit;
 use sheet::Bus;
 use sheet::Place;
 use sheet::Spot;
-ghost use mathlib.Core.Path.{_≡_};
 ghost use Rattle.sheet.specs.Operand.{deposit};
 ghost use Rattle.sheet.specs.Bits as tree;
 ghost use Rattle.sheet.specs.Contract.{OnMemory};

@@ -1,7 +1,6 @@
 -- What a control instruction comes to for code that is lent the registers and not the halted mark.
 use mathlib.Core.Bool.{Bool, _||_}
 use mathlib.Core.List.{List}
-use mathlib.Core.Path.{_≡_}
 use Prim.Native.Nat.{ℕ}
 use Rattle.sheet.specs.declared.Control.{Control}
 use Rattle.sheet.specs.declared.State.{State}

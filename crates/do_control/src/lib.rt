@@ -1,7 +1,6 @@
 // HALT, NOP, DI, EI, and CLR1, SET1, NOT1 of CY and DIR.
 use registers::PSW;
 use sheet::Control;
-ghost use mathlib.Core.Path.{_≡_};
 ghost use Rattle.do_control.specs.Controls.{Controls};
 
 // Returns whether the halted mark, which the caller keeps, is to be set.

@@ -6,7 +6,6 @@ use sheet::Place;
 use sheet::Places;
 use sheet::Shift;
 use sheet::Spot;
-ghost use mathlib.Core.Path.{_≡_};
 ghost use Rattle.sheet.specs.declared.Places.the-variants.{One, Counted};
 ghost use Rattle.sheet.specs.Shift as tree;
 ghost use Rattle.sheet.specs.Contract.{OnMemory};

@@ -12,7 +12,7 @@ use Rattle.sheet.specs.declared.Repeat.the-variants.{Once, WhileZ, WhileNotZ, W
 use Rattle.sheet.specs.Width.{pick}
 use Rattle.sheet.specs.Registers.{CW, fileOf}
 use Rattle.sheet.specs.World.{World}
-use Rattle.sheet.specs.Act.{Act, pure, _>>=_}
+use Rattle.sheet.specs.Act.{pure, _>>=_}
 use Rattle.sheet.specs.Handler.{run, runBy}
 use Rattle.sheet.specs.Block.{primitive, element, repeated, block}
 use Rattle.sheet.specs.Contract.{exec, Ends, Stops, OnMemory}
