@@ -1,0 +1,3 @@
+pub mod DecodesLaws
+pub mod CodeLaws
+pub mod FollowLaws

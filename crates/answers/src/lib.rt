@@ -1,0 +1,180 @@
+// What bytes name, by the groups of section 8: one constructor for each, since an instruction is a large value to the prover.
+use sheet::Amount;
+use sheet::Arithmetic;
+use sheet::Bit;
+use sheet::Branch;
+use sheet::Conditional;
+use sheet::Control;
+use sheet::Convert;
+use sheet::Decimal;
+use sheet::Field;
+use sheet::Instr;
+use sheet::Interrupt;
+use sheet::Io;
+use sheet::Multiply;
+use sheet::Place;
+use sheet::Places;
+use sheet::Primitive;
+use sheet::Repeat;
+use sheet::Shift;
+use sheet::Stack;
+use sheet::Transfer;
+ghost use mathlib.Core.Path.{_≡_};
+ghost use Rattle.sheet.specs.declared.Instr.the-variants.{Transfers, Calculates, Multiplies, Converts, Decimals, Fields, Stacks, Branches, Tests, Interrupts, Ports, Controls, Shifts, Bits, Blocks};
+ghost use Rattle.answers.specs.declared.Decoded.the-variants.{Known as KnownIs};
+
+// An instruction and how many bytes it has, or the refusal's number.
+pub enum Decoded {
+    Known { instr: Instr, size: u16 },
+    Unknown { number: u8 },
+}
+
+pub fn transfers(group: Transfer, size: u16) -> Decoded
+    ensures { λ r. ⌜ r ≡ KnownIs (Transfers group) size ⌝ }
+{
+    Decoded::Known {
+        instr: Instr::Transfers(group),
+        size: size,
+    }
+}
+
+pub fn calculates(group: Arithmetic, size: u16) -> Decoded
+    ensures { λ r. ⌜ r ≡ KnownIs (Calculates group) size ⌝ }
+{
+    Decoded::Known {
+        instr: Instr::Calculates(group),
+        size: size,
+    }
+}
+
+pub fn multiplies(group: Multiply, size: u16) -> Decoded
+    ensures { λ r. ⌜ r ≡ KnownIs (Multiplies group) size ⌝ }
+{
+    Decoded::Known {
+        instr: Instr::Multiplies(group),
+        size: size,
+    }
+}
+
+pub fn converts(group: Convert, size: u16) -> Decoded
+    ensures { λ r. ⌜ r ≡ KnownIs (Converts group) size ⌝ }
+{
+    Decoded::Known {
+        instr: Instr::Converts(group),
+        size: size,
+    }
+}
+
+pub fn decimals(group: Decimal, size: u16) -> Decoded
+    ensures { λ r. ⌜ r ≡ KnownIs (Decimals group) size ⌝ }
+{
+    Decoded::Known {
+        instr: Instr::Decimals(group),
+        size: size,
+    }
+}
+
+pub fn fields(group: Field, size: u16) -> Decoded
+    ensures { λ r. ⌜ r ≡ KnownIs (Fields group) size ⌝ }
+{
+    Decoded::Known {
+        instr: Instr::Fields(group),
+        size: size,
+    }
+}
+
+pub fn stacks(group: Stack, size: u16) -> Decoded
+    ensures { λ r. ⌜ r ≡ KnownIs (Stacks group) size ⌝ }
+{
+    Decoded::Known {
+        instr: Instr::Stacks(group),
+        size: size,
+    }
+}
+
+pub fn branches(group: Branch, size: u16) -> Decoded
+    ensures { λ r. ⌜ r ≡ KnownIs (Branches group) size ⌝ }
+{
+    Decoded::Known {
+        instr: Instr::Branches(group),
+        size: size,
+    }
+}
+
+pub fn tests(group: Conditional, size: u16) -> Decoded
+    ensures { λ r. ⌜ r ≡ KnownIs (Tests group) size ⌝ }
+{
+    Decoded::Known {
+        instr: Instr::Tests(group),
+        size: size,
+    }
+}
+
+pub fn interrupts(group: Interrupt, size: u16) -> Decoded
+    ensures { λ r. ⌜ r ≡ KnownIs (Interrupts group) size ⌝ }
+{
+    Decoded::Known {
+        instr: Instr::Interrupts(group),
+        size: size,
+    }
+}
+
+pub fn ports(group: Io, size: u16) -> Decoded
+    ensures { λ r. ⌜ r ≡ KnownIs (Ports group) size ⌝ }
+{
+    Decoded::Known {
+        instr: Instr::Ports(group),
+        size: size,
+    }
+}
+
+pub fn controls(group: Control, size: u16) -> Decoded
+    ensures { λ r. ⌜ r ≡ KnownIs (Controls group) size ⌝ }
+{
+    Decoded::Known {
+        instr: Instr::Controls(group),
+        size: size,
+    }
+}
+
+pub fn shifts(kind: Shift, word: bool, to: Place, places: Places, size: u16) -> Decoded
+    ensures { λ r. ⌜ r ≡ KnownIs (Shifts kind word to places) size ⌝ }
+{
+    Decoded::Known {
+        instr: Instr::Shifts {
+            kind: kind,
+            word: word,
+            to: to,
+            places: places,
+        },
+        size: size,
+    }
+}
+
+pub fn bits(op: Bit, word: bool, to: Place, number: Amount, size: u16) -> Decoded
+    ensures { λ r. ⌜ r ≡ KnownIs (Bits op word to number) size ⌝ }
+{
+    Decoded::Known {
+        instr: Instr::Bits {
+            op: op,
+            word: word,
+            to: to,
+            number: number,
+        },
+        size: size,
+    }
+}
+
+pub fn blocks(primitive: Primitive, word: bool, seg: u8, repeat: Repeat, size: u16) -> Decoded
+    ensures { λ r. ⌜ r ≡ KnownIs (Blocks primitive word seg repeat) size ⌝ }
+{
+    Decoded::Known {
+        instr: Instr::Blocks {
+            primitive: primitive,
+            word: word,
+            seg: seg,
+            repeat: repeat,
+        },
+        size: size,
+    }
+}

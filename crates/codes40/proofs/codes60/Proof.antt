@@ -1,0 +1,65 @@
+use mathlib.Core.List.{[], _∷_}
+use Rattle.answers.proofs.CodeLaws.{at-one, at-rest, at-row}
+use Rattle.answers.proofs.FollowLaws.{decodes-known, with-short, with-word}
+use mathlib.Core.Path.{refl}
+use borrow.Author.Needs.{needs}
+use Rattle.codes40.proofs.codes60.Statement.{statement}
+use Rattle.codes40.proofs.codes60.Tie as tie
+
+returns : tie.Need-returns
+returns c = at-row 0x6e refl (search needs) (search needs) (decodes-known (c .block .ensures))
+
+returns-2 : tie.Need-returns-2
+returns-2 c = at-row 0x6c refl (search needs) (search needs) (decodes-known (c .block2 .ensures))
+
+returns-3 : tie.Need-returns-3
+returns-3 c = at-one 0x60 refl refl (c .before .match .keys1) (decodes-known (c .stacks .ensures))
+
+returns-4 : tie.Need-returns-4
+returns-4 c = at-one 0x61 refl refl (c .before .match .keys2) (decodes-known (c .stacks2 .ensures))
+
+returns-5 : tie.Need-returns-5
+returns-5 c = at-one 0x62 refl refl (c .before .match .keys3) (c .chkind .ensures)
+
+returns-6 : tie.Need-returns-6
+returns-6 c = at-one 0x68 refl refl (c .before .before .match .keys4) (with-word _ (c .before .code-word .ensures) (c .stacks3 .ensures))
+
+returns-7 : tie.Need-returns-7
+returns-7 c = at-one 0x69 refl refl (c .before .match .keys5) (c .multiply-word .ensures)
+
+returns-8 : tie.Need-returns-8
+returns-8 c = at-one 0x6a refl refl (c .before .before .match .keys6) (with-short _ (c .before .code-short .ensures) (c .stacks4 .ensures))
+
+returns-9 : tie.Need-returns-9
+returns-9 c = at-one 0x6b refl refl (c .before .match .keys7) (c .multiply-byte .ensures)
+
+returns-10 : tie.Need-returns-10
+returns-10 c = at-rest 0x60 12 ((0x60 ∷ []) ∷ (0x61 ∷ []) ∷ (0x62 ∷ []) ∷ (0x68 ∷ []) ∷ (0x69 ∷ []) ∷ (0x6a ∷ []) ∷ (0x6b ∷ []) ∷ []) refl (c .match .rest) (search needs) (search needs)
+
+pub codes60-spec : {M : Type 1} → statement M
+codes60-spec =
+    tie.close
+    (tie.spec
+    (λ c κs. search needs)
+    returns
+    (λ c κs. search needs)
+    returns-2
+    (λ c κs. search needs)
+    (λ c κs. search needs)
+    (λ c κs. search needs)
+    (λ c κs. search needs)
+    (λ c. search needs)
+    (λ c κs. search needs)
+    (λ c κs. search needs)
+    (λ c κs. search needs)
+    (λ c. search needs)
+    (λ c κs. search needs)
+    (λ c κs. search needs)
+    returns-3
+    returns-4
+    returns-5
+    returns-6
+    returns-7
+    returns-8
+    returns-9
+    returns-10)

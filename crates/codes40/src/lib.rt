@@ -1,0 +1,155 @@
+// The first bytes 40 to 7F.
+use answers::Decoded;
+use sheet::Arithmetic;
+use sheet::Conditional;
+use sheet::Interrupt;
+use sheet::Multiply;
+use sheet::Place;
+use sheet::Prefixes;
+use sheet::Primitive;
+use sheet::Stack;
+use sheet::Unary;
+ghost use mathlib.Core.Path.{_≡_};
+ghost use Prim.Native.Nat.{_≤_, _<_};
+ghost use Rattle.sheet.specs.declared.Instr.the-variants.{Multiplies, Interrupts};
+ghost use Rattle.sheet.specs.declared.Multiply.the-variants.{MulByte, MulWord};
+ghost use Rattle.sheet.specs.declared.Interrupt.the-variants.{Chkind};
+ghost use Rattle.sheet.specs.Step.{codeByte};
+ghost use Rattle.sheet.specs.FirstByte.{withPlace, withMemory, withWord, withShort, bytes40};
+ghost use Rattle.answers.specs.Answer.{Decodes, Names};
+
+fn chkind(ram: &[u8], rom: &[u8], ps: u16, pc: u16, p: Prefixes, i: u16) -> Decoded
+    requires { ⌜ i ≤ 4 ⌝ }
+    ensures { λ r. ⌜ Decodes (withMemory p (λ reg a. Interrupts (Chkind reg a))) (codeByte (now (ram .entry)) (now (rom .entry)) ps pc) i r ⌝ }
+{
+    let o = places::operands(ram, rom, ps, pc, p, i);
+    let place = o.place;
+    match place {
+        Place::Memory(from) => answers::interrupts(
+            Interrupt::Chkind {
+                reg: o.reg,
+                from: from,
+            },
+            o.next,
+        ),
+        Place::Register(n) => Decoded::Unknown { number: 3 },
+    }
+}
+
+fn multiply_word(ram: &[u8], rom: &[u8], ps: u16, pc: u16, p: Prefixes, i: u16) -> Decoded
+    requires { ⌜ i ≤ 4 ⌝ }
+    ensures { λ r. ⌜ Decodes (withPlace p (λ reg a. withWord (λ v. Multiplies (MulWord reg a v)))) (codeByte (now (ram .entry)) (now (rom .entry)) ps pc) i r ⌝ }
+{
+    let o = places::operands(ram, rom, ps, pc, p, i);
+    let place = o.place;
+    let v = fetch::code_word(ram, rom, ps, pc, o.next);
+    answers::multiplies(
+        Multiply::MulWord {
+            reg: o.reg,
+            from: place,
+            by: v,
+        },
+        o.next + 2,
+    )
+}
+
+fn multiply_byte(ram: &[u8], rom: &[u8], ps: u16, pc: u16, p: Prefixes, i: u16) -> Decoded
+    requires { ⌜ i ≤ 4 ⌝ }
+    ensures { λ r. ⌜ Decodes (withPlace p (λ reg a. withShort (λ v. Multiplies (MulByte reg a v)))) (codeByte (now (ram .entry)) (now (rom .entry)) ps pc) i r ⌝ }
+{
+    let o = places::operands(ram, rom, ps, pc, p, i);
+    let place = o.place;
+    let v = fetch::code_short(ram, rom, ps, pc, o.next);
+    answers::multiplies(
+        Multiply::MulByte {
+            reg: o.reg,
+            from: place,
+            by: v,
+        },
+        o.next + 1,
+    )
+}
+
+fn codes60(ram: &[u8], rom: &[u8], ps: u16, pc: u16, p: Prefixes, b: u8, i: u16) -> Decoded
+    requires { ⌜ (0x60 ≤ b) × ((b < 0x70) × (i ≤ 4)) ⌝ }
+    ensures { λ r. ⌜ Names (bytes40 p) b (codeByte (now (ram .entry)) (now (rom .entry)) ps pc) i r ⌝ }
+{
+    if 0x6e <= b {
+        return places::block(p, Primitive::Outm, b - 0x6e, i);
+    }
+    if 0x6c <= b {
+        return places::block(p, Primitive::Inm, b - 0x6c, i);
+    }
+    match b {
+        0x60 => answers::stacks(Stack::PushR, i),
+        0x61 => answers::stacks(Stack::PopR, i),
+        0x62 => chkind(ram, rom, ps, pc, p, i),
+        0x68 => answers::stacks(
+            Stack::PushWord {
+                value: fetch::code_word(ram, rom, ps, pc, i),
+            },
+            i + 2,
+        ),
+        0x69 => multiply_word(ram, rom, ps, pc, p, i),
+        0x6a => answers::stacks(
+            Stack::PushByte {
+                value: fetch::code_short(ram, rom, ps, pc, i),
+            },
+            i + 1,
+        ),
+        0x6b => multiply_byte(ram, rom, ps, pc, p, i),
+        _ => Decoded::Unknown { number: 3 },
+    }
+}
+
+pub fn codes40(ram: &[u8], rom: &[u8], ps: u16, pc: u16, p: Prefixes, b: u8, i: u16) -> Decoded
+    requires { ⌜ (0x40 ≤ b) × ((b < 0x80) × (i ≤ 4)) ⌝ }
+    ensures { λ r. ⌜ Names (bytes40 p) b (codeByte (now (ram .entry)) (now (rom .entry)) ps pc) i r ⌝ }
+{
+    if b < 0x48 {
+        return answers::calculates(
+            Arithmetic::One {
+                op: Unary::Inc,
+                word: true,
+                to: Place::Register(b - 0x40),
+            },
+            i,
+        );
+    }
+    if b < 0x50 {
+        return answers::calculates(
+            Arithmetic::One {
+                op: Unary::Dec,
+                word: true,
+                to: Place::Register(b - 0x48),
+            },
+            i,
+        );
+    }
+    if b < 0x58 {
+        return answers::stacks(
+            Stack::Push {
+                from: Place::Register(b - 0x50),
+            },
+            i,
+        );
+    }
+    if b < 0x60 {
+        return answers::stacks(
+            Stack::Pop {
+                to: Place::Register(b - 0x58),
+            },
+            i,
+        );
+    }
+    if b < 0x70 {
+        return codes60(ram, rom, ps, pc, p, b, i);
+    }
+    answers::tests(
+        Conditional::If {
+            condition: b - 0x70,
+            disp: fetch::code_short(ram, rom, ps, pc, i),
+        },
+        i + 1,
+    )
+}

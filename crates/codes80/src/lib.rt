@@ -1,0 +1,195 @@
+// The first bytes 80 to 8F.
+use answers::Decoded;
+use fetch::NumberRead;
+use sheet::Arithmetic;
+use sheet::Place;
+use sheet::Prefixes;
+use sheet::Source;
+use sheet::Stack;
+use sheet::Transfer;
+ghost use mathlib.Core.Path.{_≡_};
+ghost use Prim.Native.Nat.{ℕ, _≤_, _<_};
+ghost use Rattle.sheet.specs.declared.Instr.the-variants.{Transfers, Stacks};
+ghost use Rattle.sheet.specs.declared.Transfer.the-variants.{Ldea};
+ghost use Rattle.sheet.specs.declared.Stack.the-variants.{Pop};
+ghost use Rattle.sheet.specs.Step.{codeByte};
+ghost use Rattle.sheet.specs.SecondByte.{digit};
+ghost use Rattle.sheet.specs.FirstByte.{smallImmediate, withImmediate, withMemory, fromSegment, toSegment, bytes80};
+ghost use Rattle.answers.specs.Answer.{Takes, Decodes, Names};
+
+// The immediate of 80 to 83.
+fn small_immediate(ram: &[u8], rom: &[u8], ps: u16, pc: u16, n: u8, i: u16) -> NumberRead
+    requires { ⌜ i ≤ 8 ⌝ }
+    ensures { λ r. ⌜ Takes ℕ (smallImmediate n) (codeByte (now (ram .entry)) (now (rom .entry)) ps pc) i (r .value) (r .next) 2 ⌝ }
+{
+    if n == 1 {
+        return NumberRead {
+            value: fetch::code_word(ram, rom, ps, pc, i),
+            next: i + 2,
+        };
+    }
+    if n == 3 {
+        return NumberRead {
+            value: fetch::code_short(ram, rom, ps, pc, i),
+            next: i + 1,
+        };
+    }
+    NumberRead {
+        value: fetch::code_byte(ram, rom, ps, pc, i) as u16,
+        next: i + 1,
+    }
+}
+
+fn with_immediate(ram: &[u8], rom: &[u8], ps: u16, pc: u16, p: Prefixes, n: u8, i: u16) -> Decoded
+    requires { ⌜ i ≤ 4 ⌝ }
+    ensures { λ r. ⌜ Decodes (withImmediate p n) (codeByte (now (ram .entry)) (now (rom .entry)) ps pc) i r ⌝ }
+{
+    let o = places::operands(ram, rom, ps, pc, p, i);
+    let place = o.place;
+    let op = places::operation_at(o.reg);
+    let v = small_immediate(ram, rom, ps, pc, n, o.next);
+    answers::calculates(
+        Arithmetic::Two {
+            op: op,
+            word: n % 2 == 1,
+            to: place,
+            from: Source::Immediate(v.value),
+        },
+        v.next,
+    )
+}
+
+// 84 to 8B: a register and a place.
+fn two_places(ram: &[u8], rom: &[u8], ps: u16, pc: u16, p: Prefixes, b: u8, i: u16) -> Decoded
+    requires { ⌜ (0x84 ≤ b) × ((b < 0x8c) × (i ≤ 4)) ⌝ }
+    ensures { λ r. ⌜ Names (bytes80 p) b (codeByte (now (ram .entry)) (now (rom .entry)) ps pc) i r ⌝ }
+{
+    let o = places::operands(ram, rom, ps, pc, p, i);
+    let place = o.place;
+    if b < 0x86 {
+        return answers::calculates(
+            Arithmetic::Test {
+                word: (b - 0x84) % 2 == 1,
+                left: place,
+                right: Source::Held(Place::Register(o.reg)),
+            },
+            o.next,
+        );
+    }
+    if b < 0x88 {
+        return answers::transfers(
+            Transfer::Xch {
+                word: (b - 0x86) % 2 == 1,
+                reg: o.reg,
+                with: place,
+            },
+            o.next,
+        );
+    }
+    if b < 0x8a {
+        return answers::transfers(
+            Transfer::Mov {
+                word: (b - 0x88) % 2 == 1,
+                to: place,
+                from: Source::Held(Place::Register(o.reg)),
+            },
+            o.next,
+        );
+    }
+    answers::transfers(
+        Transfer::Mov {
+            word: (b - 0x8a) % 2 == 1,
+            to: Place::Register(o.reg),
+            from: Source::Held(place),
+        },
+        o.next,
+    )
+}
+
+fn from_segment(ram: &[u8], rom: &[u8], ps: u16, pc: u16, p: Prefixes, i: u16) -> Decoded
+    requires { ⌜ i ≤ 4 ⌝ }
+    ensures { λ r. ⌜ Decodes (fromSegment p) (codeByte (now (ram .entry)) (now (rom .entry)) ps pc) i r ⌝ }
+{
+    let o = places::operands(ram, rom, ps, pc, p, i);
+    let place = o.place;
+    if 4 <= o.reg {
+        return Decoded::Unknown { number: 3 };
+    }
+    answers::transfers(
+        Transfer::FromSegment {
+            to: place,
+            seg: o.reg,
+        },
+        o.next,
+    )
+}
+
+// PS is not loaded.
+fn to_segment(ram: &[u8], rom: &[u8], ps: u16, pc: u16, p: Prefixes, i: u16) -> Decoded
+    requires { ⌜ i ≤ 4 ⌝ }
+    ensures { λ r. ⌜ Decodes (toSegment p) (codeByte (now (ram .entry)) (now (rom .entry)) ps pc) i r ⌝ }
+{
+    let o = places::operands(ram, rom, ps, pc, p, i);
+    let place = o.place;
+    if 4 <= o.reg {
+        return Decoded::Unknown { number: 3 };
+    }
+    if o.reg == 1 {
+        return Decoded::Unknown { number: 3 };
+    }
+    answers::transfers(
+        Transfer::ToSegment {
+            seg: o.reg,
+            from: place,
+        },
+        o.next,
+    )
+}
+
+fn ldea(ram: &[u8], rom: &[u8], ps: u16, pc: u16, p: Prefixes, i: u16) -> Decoded
+    requires { ⌜ i ≤ 4 ⌝ }
+    ensures { λ r. ⌜ Decodes (withMemory p (λ reg a. Transfers (Ldea reg a))) (codeByte (now (ram .entry)) (now (rom .entry)) ps pc) i r ⌝ }
+{
+    let o = places::operands(ram, rom, ps, pc, p, i);
+    let place = o.place;
+    match place {
+        Place::Memory(from) => answers::transfers(
+            Transfer::Ldea {
+                reg: o.reg,
+                from: from,
+            },
+            o.next,
+        ),
+        Place::Register(n) => Decoded::Unknown { number: 3 },
+    }
+}
+
+fn pop(ram: &[u8], rom: &[u8], ps: u16, pc: u16, p: Prefixes, i: u16) -> Decoded
+    requires { ⌜ i ≤ 4 ⌝ }
+    ensures { λ r. ⌜ Decodes (digit (λ a. Stacks (Pop a)) p) (codeByte (now (ram .entry)) (now (rom .entry)) ps pc) i r ⌝ }
+{
+    let o = places::operands(ram, rom, ps, pc, p, i);
+    let place = o.place;
+    if o.reg == 0 {
+        return answers::stacks(Stack::Pop { to: place }, o.next);
+    }
+    Decoded::Unknown { number: 3 }
+}
+
+pub fn codes80(ram: &[u8], rom: &[u8], ps: u16, pc: u16, p: Prefixes, b: u8, i: u16) -> Decoded
+    requires { ⌜ (0x80 ≤ b) × ((b < 0x90) × (i ≤ 4)) ⌝ }
+    ensures { λ r. ⌜ Names (bytes80 p) b (codeByte (now (ram .entry)) (now (rom .entry)) ps pc) i r ⌝ }
+{
+    if b < 0x84 {
+        return with_immediate(ram, rom, ps, pc, p, b - 0x80, i);
+    }
+    if b < 0x8c {
+        return two_places(ram, rom, ps, pc, p, b, i);
+    }
+    match b {
+        0x8c => from_segment(ram, rom, ps, pc, p, i),
+        0x8d => ldea(ram, rom, ps, pc, p, i),
+        0x8e => to_segment(ram, rom, ps, pc, p, i),
+        _ => pop(ram, rom, ps, pc, p, i),
+    }
+}

@@ -1,0 +1,177 @@
+// The first bytes 90 to BF.
+use answers::Decoded;
+use sheet::Arithmetic;
+use sheet::Branch;
+use sheet::Control;
+use sheet::Convert;
+use sheet::Place;
+use sheet::Prefixes;
+use sheet::Primitive;
+use sheet::Source;
+use sheet::Stack;
+use sheet::Transfer;
+ghost use mathlib.Core.Path.{_≡_};
+ghost use Prim.Native.Nat.{_≤_, _<_};
+ghost use Rattle.sheet.specs.declared.Instr.the-variants.{Branches, Calculates};
+ghost use Rattle.sheet.specs.declared.Branch.the-variants.{CallFar};
+ghost use Rattle.sheet.specs.declared.Arithmetic.the-variants.{Test};
+ghost use Rattle.sheet.specs.declared.Place.the-variants.{Register as RegisterIs};
+ghost use Rattle.sheet.specs.Registers.{AW};
+ghost use Rattle.sheet.specs.Encoding.{W};
+ghost use Rattle.sheet.specs.Step.{codeByte};
+ghost use Rattle.sheet.specs.FirstByte.{withFar, withAcc, bytes80};
+ghost use Rattle.answers.specs.Answer.{Decodes, Names};
+
+// The number of AW and AL.
+const ACC: u8 = 0;
+
+fn call_far(ram: &[u8], rom: &[u8], ps: u16, pc: u16, i: u16) -> Decoded
+    requires { ⌜ i ≤ 4 ⌝ }
+    ensures { λ r. ⌜ Decodes (withFar (λ s o. Branches (CallFar s o))) (codeByte (now (ram .entry)) (now (rom .entry)) ps pc) i r ⌝ }
+{
+    let offset = fetch::code_word(ram, rom, ps, pc, i);
+    let next = i + 2;
+    let segment = fetch::code_word(ram, rom, ps, pc, next);
+    answers::branches(
+        Branch::CallFar {
+            ps: segment,
+            pc: offset,
+        },
+        next + 2,
+    )
+}
+
+fn codes98(ram: &[u8], rom: &[u8], ps: u16, pc: u16, p: Prefixes, b: u8, i: u16) -> Decoded
+    requires { ⌜ (0x98 ≤ b) × ((b < 0xa0) × (i ≤ 4)) ⌝ }
+    ensures { λ r. ⌜ Names (bytes80 p) b (codeByte (now (ram .entry)) (now (rom .entry)) ps pc) i r ⌝ }
+{
+    match b {
+        0x98 => answers::converts(Convert::Cvtbw, i),
+        0x99 => answers::converts(Convert::Cvtwl, i),
+        0x9a => call_far(ram, rom, ps, pc, i),
+        0x9c => answers::stacks(Stack::PushPsw, i),
+        0x9d => answers::stacks(Stack::PopPsw, i),
+        0x9e => answers::transfers(Transfer::PswFromAh, i),
+        0x9f => answers::transfers(Transfer::AhFromPsw, i),
+        _ => Decoded::Unknown { number: 3 },
+    }
+}
+
+// A0 to A3: the accumulator and a byte or word at a 16-bit address.
+fn acc_memory(ram: &[u8], rom: &[u8], ps: u16, pc: u16, p: Prefixes, b: u8, i: u16) -> Decoded
+    requires { ⌜ (0xa0 ≤ b) × ((b < 0xa4) × (i ≤ 4)) ⌝ }
+    ensures { λ r. ⌜ Names (bytes80 p) b (codeByte (now (ram .entry)) (now (rom .entry)) ps pc) i r ⌝ }
+{
+    let offset = fetch::code_word(ram, rom, ps, pc, i);
+    let address = places::direct(p, offset);
+    if b < 0xa2 {
+        return answers::transfers(
+            Transfer::LoadAcc {
+                word: (b - 0xa0) % 2 == 1,
+                from: address,
+            },
+            i + 2,
+        );
+    }
+    answers::transfers(
+        Transfer::StoreAcc {
+            word: (b - 0xa2) % 2 == 1,
+            to: address,
+        },
+        i + 2,
+    )
+}
+
+fn test_acc(ram: &[u8], rom: &[u8], ps: u16, pc: u16, n: u8, i: u16) -> Decoded
+    requires { ⌜ i ≤ 4 ⌝ }
+    ensures { λ r. ⌜ Decodes (withAcc (λ v. Calculates (Test (W n) (RegisterIs AW) v)) (W n)) (codeByte (now (ram .entry)) (now (rom .entry)) ps pc) i r ⌝ }
+{
+    let word = n % 2 == 1;
+    let v = fetch::code_immediate(ram, rom, ps, pc, word, i);
+    answers::calculates(
+        Arithmetic::Test {
+            word: word,
+            left: Place::Register(ACC),
+            right: Source::Immediate(v.value),
+        },
+        v.next,
+    )
+}
+
+fn codesa0(ram: &[u8], rom: &[u8], ps: u16, pc: u16, p: Prefixes, b: u8, i: u16) -> Decoded
+    requires { ⌜ (0xa0 ≤ b) × ((b < 0xb0) × (i ≤ 4)) ⌝ }
+    ensures { λ r. ⌜ Names (bytes80 p) b (codeByte (now (ram .entry)) (now (rom .entry)) ps pc) i r ⌝ }
+{
+    if b < 0xa4 {
+        return acc_memory(ram, rom, ps, pc, p, b, i);
+    }
+    if b < 0xa6 {
+        return places::block(p, Primitive::Movbk, b - 0xa4, i);
+    }
+    if b < 0xa8 {
+        return places::block(p, Primitive::Cmpbk, b - 0xa6, i);
+    }
+    if b < 0xaa {
+        return test_acc(ram, rom, ps, pc, b - 0xa8, i);
+    }
+    if b < 0xac {
+        return places::block(p, Primitive::Stm, b - 0xaa, i);
+    }
+    if b < 0xae {
+        return places::block(p, Primitive::Ldm, b - 0xac, i);
+    }
+    places::block(p, Primitive::Cmpm, b - 0xae, i)
+}
+
+// B0 to BF: a register and an immediate.
+fn load_register(ram: &[u8], rom: &[u8], ps: u16, pc: u16, p: Prefixes, b: u8, i: u16) -> Decoded
+    requires { ⌜ (0xb0 ≤ b) × ((b < 0xc0) × (i ≤ 4)) ⌝ }
+    ensures { λ r. ⌜ Names (bytes80 p) b (codeByte (now (ram .entry)) (now (rom .entry)) ps pc) i r ⌝ }
+{
+    if b < 0xb8 {
+        let v = fetch::code_byte(ram, rom, ps, pc, i);
+        return answers::transfers(
+            Transfer::Mov {
+                word: false,
+                to: Place::Register(b - 0xb0),
+                from: Source::Immediate(v as u16),
+            },
+            i + 1,
+        );
+    }
+    let v = fetch::code_word(ram, rom, ps, pc, i);
+    answers::transfers(
+        Transfer::Mov {
+            word: true,
+            to: Place::Register(b - 0xb8),
+            from: Source::Immediate(v),
+        },
+        i + 2,
+    )
+}
+
+pub fn codes90(ram: &[u8], rom: &[u8], ps: u16, pc: u16, p: Prefixes, b: u8, i: u16) -> Decoded
+    requires { ⌜ (0x90 ≤ b) × ((b < 0xc0) × (i ≤ 4)) ⌝ }
+    ensures { λ r. ⌜ Names (bytes80 p) b (codeByte (now (ram .entry)) (now (rom .entry)) ps pc) i r ⌝ }
+{
+    if b < 0x91 {
+        return answers::controls(Control::Nop, i);
+    }
+    if b < 0x98 {
+        return answers::transfers(
+            Transfer::Xch {
+                word: true,
+                reg: b - 0x91 + 1,
+                with: Place::Register(ACC),
+            },
+            i,
+        );
+    }
+    if b < 0xa0 {
+        return codes98(ram, rom, ps, pc, p, b, i);
+    }
+    if b < 0xb0 {
+        return codesa0(ram, rom, ps, pc, p, b, i);
+    }
+    load_register(ram, rom, ps, pc, p, b, i)
+}

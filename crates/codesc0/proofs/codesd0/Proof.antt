@@ -1,0 +1,42 @@
+use mathlib.Core.List.{[], _∷_}
+use Rattle.answers.proofs.CodeLaws.{at-one, at-rest, at-row}
+use Rattle.answers.proofs.FollowLaws.{decodes-known}
+use mathlib.Core.Path.{refl}
+use borrow.Author.Needs.{needs}
+use Rattle.codesc0.proofs.codesd0.Statement.{statement}
+use Rattle.codesc0.proofs.codesd0.Tie as tie
+
+returns : tie.Need-returns
+returns c = at-row 0xd0 refl (search needs) (search needs) (c .shift-fixed .ensures)
+
+returns-2 : tie.Need-returns-2
+returns-2 c = at-row 0xd2 refl (search needs) (search needs) (c .shift-fixed2 .ensures)
+
+returns-3 : tie.Need-returns-3
+returns-3 c = at-one 0xd4 refl refl (c .before .match .keys1) (c .after-ten .ensures)
+
+returns-4 : tie.Need-returns-4
+returns-4 c = at-one 0xd5 refl refl (c .before .match .keys2) (c .after-ten2 .ensures)
+
+returns-5 : tie.Need-returns-5
+returns-5 c = at-one 0xd7 refl refl (c .before .match .keys3) (decodes-known (c .trans .ensures))
+
+returns-6 : tie.Need-returns-6
+returns-6 c = at-rest 0xd4 12 ((0xd4 ∷ []) ∷ (0xd5 ∷ []) ∷ (0xd7 ∷ []) ∷ []) refl (c .match .rest) (search needs) (search needs)
+
+pub codesd0-spec : {M : Type 1} → statement M
+codesd0-spec =
+    tie.close
+    (tie.spec
+    (λ c. search needs)
+    (λ c κs. search needs)
+    returns
+    (λ c κs. search needs)
+    returns-2
+    (λ c κs. search needs)
+    (λ c κs. search needs)
+    (λ c κs. search needs)
+    returns-3
+    returns-4
+    returns-5
+    returns-6)

@@ -1,0 +1,239 @@
+// The first bytes C0 to DF.
+use answers::Decoded;
+use sheet::Amount;
+use sheet::Branch;
+use sheet::Convert;
+use sheet::Interrupt;
+use sheet::Place;
+use sheet::Places;
+use sheet::Prefixes;
+use sheet::Source;
+use sheet::Stack;
+use sheet::Transfer;
+ghost use mathlib.Core.Path.{_≡_};
+ghost use Prim.Native.Nat.{_≤_, _<_};
+ghost use Rattle.sheet.specs.declared.Instr.the-variants.{Transfers};
+ghost use Rattle.sheet.specs.declared.Transfer.the-variants.{LoadPointer, Trans};
+ghost use Rattle.sheet.specs.Registers.{inDs0};
+ghost use Rattle.sheet.specs.Encoding.{segOr};
+ghost use Rattle.sheet.specs.Reading.{got};
+ghost use Rattle.sheet.specs.Step.{codeByte};
+ghost use Rattle.sheet.specs.FirstByte.{withMemory, withCounted, shiftGroup, afterTen, bytesC0};
+ghost use Rattle.answers.specs.declared.Decoded.the-variants.{Known};
+ghost use Rattle.answers.specs.Answer.{Decodes, Names};
+
+// Numbers of segments.
+const DS1: u8 = 0;
+
+const DS0: u8 = 3;
+
+// C0 and C1: the count follows.
+fn shift_given(ram: &[u8], rom: &[u8], ps: u16, pc: u16, p: Prefixes, n: u8, i: u16) -> Decoded
+    requires { ⌜ i ≤ 4 ⌝ }
+    ensures { λ r. ⌜ Decodes (shiftGroup p withCounted n) (codeByte (now (ram .entry)) (now (rom .entry)) ps pc) i r ⌝ }
+{
+    let o = places::operands(ram, rom, ps, pc, p, i);
+    let place = o.place;
+    if o.reg == 6 {
+        return Decoded::Unknown { number: 3 };
+    }
+    let kind = places::shift_at(o.reg);
+    let count = fetch::code_byte(ram, rom, ps, pc, o.next);
+    answers::shifts(
+        kind,
+        n % 2 == 1,
+        place,
+        Places::Counted(Amount::Given(count)),
+        o.next + 1,
+    )
+}
+
+// D0 to D3: by one, or by CL.
+fn shift_fixed(
+    ram: &[u8],
+    rom: &[u8],
+    ps: u16,
+    pc: u16,
+    p: Prefixes,
+    places: Places,
+    n: u8,
+    i: u16,
+) -> Decoded
+    requires { ⌜ i ≤ 4 ⌝ }
+    ensures { λ r. ⌜ Decodes (shiftGroup p (got places) n) (codeByte (now (ram .entry)) (now (rom .entry)) ps pc) i r ⌝ }
+{
+    let o = places::operands(ram, rom, ps, pc, p, i);
+    let place = o.place;
+    if o.reg == 6 {
+        return Decoded::Unknown { number: 3 };
+    }
+    let kind = places::shift_at(o.reg);
+    answers::shifts(kind, n % 2 == 1, place, places, o.next)
+}
+
+fn load_pointer(ram: &[u8], rom: &[u8], ps: u16, pc: u16, p: Prefixes, seg: u8, i: u16) -> Decoded
+    requires { ⌜ i ≤ 4 ⌝ }
+    ensures { λ r. ⌜ Decodes (withMemory p (λ reg a. Transfers (LoadPointer seg reg a))) (codeByte (now (ram .entry)) (now (rom .entry)) ps pc) i r ⌝ }
+{
+    let o = places::operands(ram, rom, ps, pc, p, i);
+    let place = o.place;
+    match place {
+        Place::Memory(from) => answers::transfers(
+            Transfer::LoadPointer {
+                seg: seg,
+                reg: o.reg,
+                from: from,
+            },
+            o.next,
+        ),
+        Place::Register(n) => Decoded::Unknown { number: 3 },
+    }
+}
+
+fn codesc2(ram: &[u8], rom: &[u8], ps: u16, pc: u16, p: Prefixes, b: u8, i: u16) -> Decoded
+    requires { ⌜ (0xc2 ≤ b) × ((b < 0xc6) × (i ≤ 4)) ⌝ }
+    ensures { λ r. ⌜ Names (bytesC0 p) b (codeByte (now (ram .entry)) (now (rom .entry)) ps pc) i r ⌝ }
+{
+    match b {
+        0xc2 => answers::branches(
+            Branch::RetPop {
+                size: fetch::code_word(ram, rom, ps, pc, i),
+            },
+            i + 2,
+        ),
+        0xc3 => answers::branches(Branch::Ret, i),
+        0xc4 => load_pointer(ram, rom, ps, pc, p, DS1, i),
+        _ => load_pointer(ram, rom, ps, pc, p, DS0, i),
+    }
+}
+
+// C6 and C7: an immediate to a place.
+fn move_immediate(ram: &[u8], rom: &[u8], ps: u16, pc: u16, p: Prefixes, b: u8, i: u16) -> Decoded
+    requires { ⌜ (0xc6 ≤ b) × ((b < 0xc8) × (i ≤ 4)) ⌝ }
+    ensures { λ r. ⌜ Names (bytesC0 p) b (codeByte (now (ram .entry)) (now (rom .entry)) ps pc) i r ⌝ }
+{
+    let o = places::operands(ram, rom, ps, pc, p, i);
+    let place = o.place;
+    let word = (b - 0xc6) % 2 == 1;
+    let v = fetch::code_immediate(ram, rom, ps, pc, word, o.next);
+    if o.reg == 0 {
+        return answers::transfers(
+            Transfer::Mov {
+                word: word,
+                to: place,
+                from: Source::Immediate(v.value),
+            },
+            v.next,
+        );
+    }
+    Decoded::Unknown { number: 3 }
+}
+
+fn codesc8(ram: &[u8], rom: &[u8], ps: u16, pc: u16, p: Prefixes, b: u8, i: u16) -> Decoded
+    requires { ⌜ (0xc8 ≤ b) × ((b < 0xcc) × (i ≤ 4)) ⌝ }
+    ensures { λ r. ⌜ Names (bytesC0 p) b (codeByte (now (ram .entry)) (now (rom .entry)) ps pc) i r ⌝ }
+{
+    match b {
+        0xc8 => answers::stacks(
+            Stack::Prepare {
+                size: fetch::code_word(ram, rom, ps, pc, i),
+                level: fetch::code_byte(ram, rom, ps, pc, i + 2),
+            },
+            i + 2 + 1,
+        ),
+        0xc9 => answers::stacks(Stack::Dispose, i),
+        0xca => answers::branches(
+            Branch::RetFarPop {
+                size: fetch::code_word(ram, rom, ps, pc, i),
+            },
+            i + 2,
+        ),
+        _ => answers::branches(Branch::RetFar, i),
+    }
+}
+
+fn codescc(ram: &[u8], rom: &[u8], ps: u16, pc: u16, p: Prefixes, b: u8, i: u16) -> Decoded
+    requires { ⌜ (0xcc ≤ b) × ((b < 0xd0) × (i ≤ 4)) ⌝ }
+    ensures { λ r. ⌜ Names (bytesC0 p) b (codeByte (now (ram .entry)) (now (rom .entry)) ps pc) i r ⌝ }
+{
+    match b {
+        0xcc => answers::interrupts(Interrupt::Brk3, i),
+        0xcd => answers::interrupts(
+            Interrupt::Brk {
+                vector: fetch::code_byte(ram, rom, ps, pc, i),
+            },
+            i + 1,
+        ),
+        0xce => answers::interrupts(Interrupt::Brkv, i),
+        _ => answers::interrupts(Interrupt::Reti, i),
+    }
+}
+
+// D4 and D5 are followed by 0Ah.
+fn after_ten(ram: &[u8], rom: &[u8], ps: u16, pc: u16, group: Convert, i: u16) -> Decoded
+    requires { ⌜ i ≤ 4 ⌝ }
+    ensures { λ r. ⌜ Decodes (afterTen group) (codeByte (now (ram .entry)) (now (rom .entry)) ps pc) i r ⌝ }
+{
+    let b = fetch::code_byte(ram, rom, ps, pc, i);
+    if b == 0x0a {
+        return answers::converts(group, i + 1);
+    }
+    Decoded::Unknown { number: 3 }
+}
+
+fn trans(p: Prefixes, i: u16) -> Decoded
+    ensures { λ r. ⌜ r ≡ Known (Transfers (Trans (segOr (p .seg) inDs0))) i ⌝ }
+{
+    let seg = p.seg;
+    let table = places::seg_or(seg, DS0);
+    answers::transfers(Transfer::Trans { seg: table }, i)
+}
+
+fn codesd0(ram: &[u8], rom: &[u8], ps: u16, pc: u16, p: Prefixes, b: u8, i: u16) -> Decoded
+    requires { ⌜ (0xd0 ≤ b) × ((b < 0xe0) × (i ≤ 4)) ⌝ }
+    ensures { λ r. ⌜ Names (bytesC0 p) b (codeByte (now (ram .entry)) (now (rom .entry)) ps pc) i r ⌝ }
+{
+    if b < 0xd2 {
+        return shift_fixed(ram, rom, ps, pc, p, Places::One, b - 0xd0, i);
+    }
+    if b < 0xd4 {
+        return shift_fixed(
+            ram,
+            rom,
+            ps,
+            pc,
+            p,
+            Places::Counted(Amount::InCl),
+            b - 0xd2,
+            i,
+        );
+    }
+    match b {
+        0xd4 => after_ten(ram, rom, ps, pc, Convert::Cvtbd, i),
+        0xd5 => after_ten(ram, rom, ps, pc, Convert::Cvtdb, i),
+        0xd7 => trans(p, i),
+        _ => Decoded::Unknown { number: 3 },
+    }
+}
+
+pub fn codesc0(ram: &[u8], rom: &[u8], ps: u16, pc: u16, p: Prefixes, b: u8, i: u16) -> Decoded
+    requires { ⌜ (0xc0 ≤ b) × ((b < 0xe0) × (i ≤ 4)) ⌝ }
+    ensures { λ r. ⌜ Names (bytesC0 p) b (codeByte (now (ram .entry)) (now (rom .entry)) ps pc) i r ⌝ }
+{
+    if b < 0xc2 {
+        return shift_given(ram, rom, ps, pc, p, b - 0xc0, i);
+    }
+    if b < 0xc6 {
+        return codesc2(ram, rom, ps, pc, p, b, i);
+    }
+    if b < 0xc8 {
+        return move_immediate(ram, rom, ps, pc, p, b, i);
+    }
+    if b < 0xcc {
+        return codesc8(ram, rom, ps, pc, p, b, i);
+    }
+    if b < 0xd0 {
+        return codescc(ram, rom, ps, pc, p, b, i);
+    }
+    codesd0(ram, rom, ps, pc, p, b, i)
+}

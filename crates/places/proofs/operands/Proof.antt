@@ -1,0 +1,10 @@
+use Rattle.places.proofs.Laws.{operands-named}
+use borrow.Author.Needs.{needs}
+use Rattle.places.proofs.operands.Statement.{statement}
+use Rattle.places.proofs.operands.Tie as tie
+
+returns : tie.Need-returns
+returns c = search (operands-named, needs)
+
+pub operands-spec : {M : Type 1} → statement M
+operands-spec = tie.close (tie.spec (λ c κs. search needs) (λ c. search needs) (λ c κs. search needs) returns)
