@@ -2,15 +2,13 @@
 use Prim.Native.Nat.{ℕ, _≤_}
 use mathlib.Core.Path.{_≡_}
 use mathlib.Core.List.{List}
-use mathlib.Core.Bool.{Bool}
 use Rattle.sheet.specs.declared.State.{State}
 use Rattle.sheet.specs.declared.Bus.{Bus}
-use Rattle.sheet.specs.declared.Progress.{Progress}
 use Rattle.sheet.specs.declared.Flagged.{Flagged}
 use Rattle.sheet.specs.Psw.{keeps, column, settled}
 use Rattle.sheet.specs.Reading.{Reading, known, unknown, scan}
 use Rattle.sheet.specs.Act.{Act}
-use Rattle.sheet.specs.World.{World, world, withFile, stateOf}
+use Rattle.sheet.specs.World.{World, world, withFile}
 use Rattle.sheet.specs.Arithmetic.{Result}
 use Rattle.sheet.specs.Handler.{Outcome, refused, done, run, nothing, tally}
 
@@ -52,12 +50,6 @@ pub record OnMemory (A : Type 0) (p : Act A) (f ram rom : List ℕ) (a : A) (f�
   pub most : n .cycles ≤ top
   pub at : (s : State) (tape log : List ℕ)
       → Ends A p (world (withFile s f) ram rom tape log) a (world (withFile s f′) ram′ rom tape log) n
-
--- code that is lent everything but the halted mark, with the most bus cycles that it takes
-pub record OnPorts (p : Act Unit) (f ram rom tape log : List ℕ) (q : Progress) (number : ℕ) (f′ ram′ log′ : List ℕ) (q′ : Progress) (n : Bus) (top : ℕ) : Type 0 where
-  pub most : n .cycles ≤ top
-  pub at : (h : Bool) → reportOf (world (stateOf f h q) ram rom tape log) (exec p (world (stateOf f h q) ram rom tape log))
-      ≡ report number (world (stateOf f′ h q′) ram′ rom tape log′) n
 
 -- a result, and the PSW that its column makes of an old one
 unfoldable pub flagged : Result → ℕ → Flagged
