@@ -10,7 +10,7 @@ use Rattle.sheet.specs.declared.Convert.{Convert}
 use Rattle.sheet.specs.declared.Convert.the-variants.{Adjba, Adj4a, Adjbs, Adj4s, Cvtbd, Cvtdb, Cvtbw, Cvtwl}
 use Rattle.sheet.specs.Width.{pick, extend}
 use Rattle.sheet.specs.Psw.{AC, CY, flagOf, column}
-use Rattle.sheet.specs.Registers.{AW, DW, PSW, AL, AH, fileOf, readReg}
+use Rattle.sheet.specs.Registers.{AW, DW, PSW, AL, fileOf, readReg}
 use Rattle.sheet.specs.Operand.{regValue, setReg}
 use Rattle.sheet.specs.Decimal.{packedResult, unpackedResult, adj4, adjb}
 use Rattle.sheet.specs.Convert.{converted, cvtbd, cvtdb, cvtbw, cvtwl}

@@ -3,7 +3,6 @@ use registers::AW;
 use registers::DW;
 use registers::PSW;
 use sheet::Convert;
-ghost use mathlib.Core.Path.{_≡_};
 ghost use Rattle.sheet.specs.Contract.{OnFile};
 ghost use Rattle.sheet.specs.Convert as sheet;
 ghost use Rattle.sheet.specs.Decimal as digits;

@@ -33,7 +33,7 @@ use Rattle.sheet.proofs.Lifted.{file-seq, file-pure, file-registers, file-flags
 use Rattle.sheet.proofs.Loop.{Goes, goes-none, goes-more, goes-end}
 use Rattle.memory.specs.Accesses.{Loads, Stores}
 use Rattle.do_decimal.specs.Both.{Both}
-use Rattle.do_decimal.specs.Chained.{chained}
+use Rattle.do_decimal.specs.Chained.{begun, chained}
 
 -- ---- one byte of the strings
 
@@ -87,11 +87,11 @@ module _ (f ram rom : List ℕ) (sub stores : Bool) (seg i : ℕ) (c : Chain) (a
 -- after i of n bytes, with c in hand, RAM as it then is and k cycles so far, whatever else is in the world
 pub record Turns (sub stores : Bool) (seg n : ℕ) (f ram rom : List ℕ) (i : ℕ) (c : Chain) (ram′ : List ℕ) (k : ℕ) : Type 0 where
   pub most : k ≤ 3 * i
-  pub at : (s : State) (tape log : List ℕ) → Goes Chain (link sub stores seg) n (record { cy = false; zero = true }) (world (withFile s f) ram rom tape log) i c (world (withFile s f) ram′ rom tape log) (record { cycles = k })
+  pub at : (s : State) (tape log : List ℕ) → Goes Chain (link sub stores seg) n begun (world (withFile s f) ram rom tape log) i c (world (withFile s f) ram′ rom tape log) (record { cycles = k })
 
 module _ (sub stores : Bool) (seg n : ℕ) (f ram rom : List ℕ) where
-  pub turns-none : Turns sub stores seg n f ram rom 0 (record { cy = false; zero = true }) ram 0
-  turns-none = record { most = lit≤ tt; at = λ s tape log. goes-none Chain (link sub stores seg) n (record { cy = false; zero = true }) (world (withFile s f) ram rom tape log) }
+  pub turns-none : Turns sub stores seg n f ram rom 0 begun ram 0
+  turns-none = record { most = lit≤ tt; at = λ s tape log. goes-none Chain (link sub stores seg) n begun (world (withFile s f) ram rom tape log) }
 
   pub turns-more : (i : ℕ) (c c′ : Chain) (ram′ ram″ : List ℕ) (k : ℕ) (m : Bus) → Turns sub stores seg n f ram rom i c ram′ k → i < n
       → OnMemory Chain (link sub stores seg i c) f ram′ rom c′ f ram″ m 3 → Turns sub stores seg n f ram rom (i + 1) (record { cy = c′ .cy; zero = c′ .zero }) ram″ (k + m .cycles)

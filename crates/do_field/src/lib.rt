@@ -121,8 +121,8 @@ fn window(file: &[u16; 14], ram: &[u8], rom: &[u8], base: u16, offset: u16, both
     }
 }
 
-fn ext(file: &mut [u16; 14], ram: &mut [u8], rom: &[u8], seg: u8, offset: u8, length: Length) -> Bus
-    ensures { λ r. ⌜ OnMemory Unit (sheet.ext seg offset length) (now (file .entry)) (now (ram .entry)) (now (rom .entry)) tt (now (file .exit)) (now (ram .exit)) r 8 ⌝ }
+fn ext(file: &mut [u16; 14], ram: &[u8], rom: &[u8], seg: u8, offset: u8, length: Length) -> Bus
+    ensures { λ r. ⌜ OnMemory Unit (sheet.ext seg offset length) (now (file .entry)) (now (ram .entry)) (now (rom .entry)) tt (now (file .exit)) (now (ram .entry)) r 8 ⌝ }
 {
     let o = registers::reg(false, file, offset);
     let n = code(file, length);

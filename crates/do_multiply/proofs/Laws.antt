@@ -17,7 +17,7 @@ use Rattle.sheet.specs.declared.Divided.{Divided}
 use Rattle.sheet.specs.declared.Divided.the-variants.{Quotient, Trap}
 use Rattle.sheet.specs.declared.Multiply.{Multiply}
 use Rattle.sheet.specs.declared.Multiply.the-variants.{Mulu, Mul, MulByte, MulWord, Divu, Div}
-use Rattle.sheet.specs.Width.{modOf, halfOf, wrapOf, signedOf, bits32}
+use Rattle.sheet.specs.Width.{halfOf, wrapOf, signedOf, bits32}
 use Rattle.sheet.specs.Psw.{flagOf, pack, keeps, column, settled}
 use Rattle.sheet.specs.Registers.{AW, DW, PSW, fileOf, readReg}
 use Rattle.sheet.specs.Operand.{regValue, setReg, valueAt}
