@@ -8,6 +8,7 @@ pub mod listing;
 pub mod machine;
 pub mod memory;
 mod operand;
+pub mod play;
 pub mod portlog;
 pub mod refusal;
 pub mod state;

@@ -8,6 +8,7 @@ mod branches;
 mod decimal;
 mod log;
 mod memory;
+mod play;
 mod ports;
 mod prefixes;
 mod refusals;
