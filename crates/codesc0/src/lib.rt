@@ -1,8 +1,7 @@
-// The first bytes C0 to DF.
+// The first bytes C0 to CF.
 use answers::Decoded;
 use sheet::Amount;
 use sheet::Branch;
-use sheet::Convert;
 use sheet::Interrupt;
 use sheet::Place;
 use sheet::Places;
@@ -10,16 +9,11 @@ use sheet::Prefixes;
 use sheet::Source;
 use sheet::Stack;
 use sheet::Transfer;
-ghost use mathlib.Core.Path.{_≡_};
 ghost use Prim.Native.Nat.{_≤_, _<_};
 ghost use Rattle.sheet.specs.declared.Instr.the-variants.{Transfers};
-ghost use Rattle.sheet.specs.declared.Transfer.the-variants.{LoadPointer, Trans};
-ghost use Rattle.sheet.specs.Registers.{inDs0};
-ghost use Rattle.sheet.specs.Encoding.{segOr};
-ghost use Rattle.sheet.specs.Reading.{got};
+ghost use Rattle.sheet.specs.declared.Transfer.the-variants.{LoadPointer};
 ghost use Rattle.sheet.specs.Step.{codeByte};
-ghost use Rattle.sheet.specs.FirstByte.{withMemory, withCounted, shiftGroup, afterTen, bytesC0};
-ghost use Rattle.answers.specs.declared.Decoded.the-variants.{Known};
+ghost use Rattle.sheet.specs.FirstByte.{withMemory, withCounted, shiftGroup, bytesC0};
 ghost use Rattle.answers.specs.Answer.{Decodes, Names};
 
 // Numbers of segments.
@@ -46,29 +40,6 @@ fn shift_given(ram: &[u8], rom: &[u8], ps: u16, pc: u16, p: Prefixes, n: u8, i: 
         Places::Counted(Amount::Given(count)),
         o.next + 1,
     )
-}
-
-// D0 to D3: by one, or by CL.
-fn shift_fixed(
-    ram: &[u8],
-    rom: &[u8],
-    ps: u16,
-    pc: u16,
-    p: Prefixes,
-    places: Places,
-    n: u8,
-    i: u16,
-) -> Decoded
-    requires { ⌜ i ≤ 4 ⌝ }
-    ensures { λ r. ⌜ Decodes (shiftGroup p (got places) n) (codeByte (now (ram .entry)) (now (rom .entry)) ps pc) i r ⌝ }
-{
-    let o = places::operands(ram, rom, ps, pc, p, i);
-    let place = o.place;
-    if o.reg == 6 {
-        return Decoded::Unknown { number: 3 };
-    }
-    let kind = places::shift_at(o.reg);
-    answers::shifts(kind, n % 2 == 1, place, places, o.next)
 }
 
 fn load_pointer(ram: &[u8], rom: &[u8], ps: u16, pc: u16, p: Prefixes, seg: u8, i: u16) -> Decoded
@@ -169,55 +140,8 @@ fn codescc(ram: &[u8], rom: &[u8], ps: u16, pc: u16, p: Prefixes, b: u8, i: u16)
     }
 }
 
-// D4 and D5 are followed by 0Ah.
-fn after_ten(ram: &[u8], rom: &[u8], ps: u16, pc: u16, group: Convert, i: u16) -> Decoded
-    requires { ⌜ i ≤ 4 ⌝ }
-    ensures { λ r. ⌜ Decodes (afterTen group) (codeByte (now (ram .entry)) (now (rom .entry)) ps pc) i r ⌝ }
-{
-    let b = fetch::code_byte(ram, rom, ps, pc, i);
-    if b == 0x0a {
-        return answers::converts(group, i + 1);
-    }
-    Decoded::Unknown { number: 3 }
-}
-
-fn trans(p: Prefixes, i: u16) -> Decoded
-    ensures { λ r. ⌜ r ≡ Known (Transfers (Trans (segOr (p .seg) inDs0))) i ⌝ }
-{
-    let seg = p.seg;
-    let table = places::seg_or(seg, DS0);
-    answers::transfers(Transfer::Trans { seg: table }, i)
-}
-
-fn codesd0(ram: &[u8], rom: &[u8], ps: u16, pc: u16, p: Prefixes, b: u8, i: u16) -> Decoded
-    requires { ⌜ (0xd0 ≤ b) × ((b < 0xe0) × (i ≤ 4)) ⌝ }
-    ensures { λ r. ⌜ Names (bytesC0 p) b (codeByte (now (ram .entry)) (now (rom .entry)) ps pc) i r ⌝ }
-{
-    if b < 0xd2 {
-        return shift_fixed(ram, rom, ps, pc, p, Places::One, b - 0xd0, i);
-    }
-    if b < 0xd4 {
-        return shift_fixed(
-            ram,
-            rom,
-            ps,
-            pc,
-            p,
-            Places::Counted(Amount::InCl),
-            b - 0xd2,
-            i,
-        );
-    }
-    match b {
-        0xd4 => after_ten(ram, rom, ps, pc, Convert::Cvtbd, i),
-        0xd5 => after_ten(ram, rom, ps, pc, Convert::Cvtdb, i),
-        0xd7 => trans(p, i),
-        _ => Decoded::Unknown { number: 3 },
-    }
-}
-
 pub fn codesc0(ram: &[u8], rom: &[u8], ps: u16, pc: u16, p: Prefixes, b: u8, i: u16) -> Decoded
-    requires { ⌜ (0xc0 ≤ b) × ((b < 0xe0) × (i ≤ 4)) ⌝ }
+    requires { ⌜ (0xc0 ≤ b) × ((b < 0xd0) × (i ≤ 4)) ⌝ }
     ensures { λ r. ⌜ Names (bytesC0 p) b (codeByte (now (ram .entry)) (now (rom .entry)) ps pc) i r ⌝ }
 {
     if b < 0xc2 {
@@ -232,8 +156,5 @@ pub fn codesc0(ram: &[u8], rom: &[u8], ps: u16, pc: u16, p: Prefixes, b: u8, i: 
     if b < 0xcc {
         return codesc8(ram, rom, ps, pc, p, b, i);
     }
-    if b < 0xd0 {
-        return codescc(ram, rom, ps, pc, p, b, i);
-    }
-    codesd0(ram, rom, ps, pc, p, b, i)
+    codescc(ram, rom, ps, pc, p, b, i)
 }

@@ -104,6 +104,9 @@ module _ {p : Prefixes} {src : ℕ → ℕ} {i reg j : ℕ} {a : Place} (o : Ope
   not-plain k h = decodes-refused _ (plain-refuses h)
 
   -- the reg field chooses a row
+  pub field-below : reg < 8
+  field-below = rw (o .field) (omega arith)
+
   pub by-field : (t : ℕ → List Row) {r : Decoded} → Names (t (o .m)) reg src (i + 1) r → Decodes (byte >>= (λ m. lookUp (t m) (regField m))) src i r
   by-field t x = decodes-seq _ (o .code) (rw (o .field) at (x .is))
 

@@ -1,4 +1,4 @@
-use Rattle.codesc0.proofs.Laws.{counted-reads, no-shift, shift-group}
+use Rattle.places.proofs.ShiftLaws.{counted-reads, no-shift, shift-group}
 use borrow.Author.Needs.{needs}
 use Rattle.codesc0.proofs.shift_given.Statement.{statement}
 use Rattle.codesc0.proofs.shift_given.Tie as tie

@@ -1,7 +1,7 @@
-use Rattle.codesc0.proofs.Laws.{no-ten, ten-follows}
+use Rattle.codesd0.proofs.Laws.{no-ten, ten-follows}
 use borrow.Author.Needs.{needs}
-use Rattle.codesc0.proofs.after_ten.Statement.{statement}
-use Rattle.codesc0.proofs.after_ten.Tie as tie
+use Rattle.codesd0.proofs.after_ten.Statement.{statement}
+use Rattle.codesd0.proofs.after_ten.Tie as tie
 
 returns : tie.Need-returns
 returns c = ten-follows _ (c .before .before .code-byte .ensures) (search needs) (c .converts .ensures)

@@ -1,6 +1,6 @@
 use borrow.Author.Needs.{needs}
-use Rattle.codesc0.proofs.trans.Statement.{statement}
-use Rattle.codesc0.proofs.trans.Tie as tie
+use Rattle.codesd0.proofs.trans.Statement.{statement}
+use Rattle.codesd0.proofs.trans.Tie as tie
 
 returns : tie.Need-returns
 returns c = rw (c .before .seg-or .ensures) at (c .transfers .ensures)

@@ -1,8 +1,8 @@
-use Rattle.codesc0.proofs.Laws.{no-shift, shift-group}
+use Rattle.places.proofs.ShiftLaws.{no-shift, shift-group}
 use Rattle.sheet.proofs.ReadingLaws.{reads-got}
 use borrow.Author.Needs.{needs}
-use Rattle.codesc0.proofs.shift_fixed.Statement.{statement}
-use Rattle.codesc0.proofs.shift_fixed.Tie as tie
+use Rattle.codesd0.proofs.shift_fixed.Statement.{statement}
+use Rattle.codesd0.proofs.shift_fixed.Tie as tie
 
 returns : tie.Need-returns
 returns c = no-shift (c .before .before .operands .ensures) _ _ (search needs)

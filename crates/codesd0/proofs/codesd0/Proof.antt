@@ -3,8 +3,8 @@ use Rattle.answers.proofs.CodeLaws.{at-one, at-rest, at-row}
 use Rattle.answers.proofs.FollowLaws.{decodes-known}
 use mathlib.Core.Path.{refl}
 use borrow.Author.Needs.{needs}
-use Rattle.codesc0.proofs.codesd0.Statement.{statement}
-use Rattle.codesc0.proofs.codesd0.Tie as tie
+use Rattle.codesd0.proofs.codesd0.Statement.{statement}
+use Rattle.codesd0.proofs.codesd0.Tie as tie
 
 returns : tie.Need-returns
 returns c = at-row 0xd0 refl (search needs) (search needs) (c .shift-fixed .ensures)

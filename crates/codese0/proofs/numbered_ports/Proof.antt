@@ -1,0 +1,25 @@
+use Rattle.answers.proofs.CodeLaws.{at-row}
+use mathlib.Core.Path.{refl}
+use Rattle.answers.proofs.FollowLaws.{with-byte}
+use borrow.Author.Needs.{needs}
+use Rattle.codese0.proofs.numbered_ports.Statement.{statement}
+use Rattle.codese0.proofs.numbered_ports.Tie as tie
+
+returns : tie.Need-returns
+returns c = at-row 0xe4 refl (search needs) (search needs) (with-byte _ (c .before .before .code-byte .ensures) (c .ports .ensures))
+
+returns-2 : tie.Need-returns-2
+returns-2 c = at-row 0xe6 refl (search needs) (search needs) (with-byte _ (c .before .before .code-byte .ensures) (c .ports2 .ensures))
+
+pub numbered-ports-spec : {M : Type 1} → statement M
+numbered-ports-spec =
+    tie.close
+    (tie.spec
+    (λ c κs. search needs)
+    (λ c. search needs)
+    (λ c. search needs)
+    (λ c κs. search needs)
+    returns
+    (λ c. search needs)
+    (λ c κs. search needs)
+    returns-2)

@@ -1,0 +1,125 @@
+// The first bytes E0 to EF.
+use answers::Decoded;
+use sheet::Branch;
+use sheet::Conditional;
+use sheet::Io;
+use sheet::Port;
+use sheet::Prefixes;
+ghost use Prim.Native.Nat.{_≤_, _<_};
+ghost use Rattle.sheet.specs.declared.Instr.the-variants.{Branches};
+ghost use Rattle.sheet.specs.declared.Branch.the-variants.{BrFar};
+ghost use Rattle.sheet.specs.Step.{codeByte};
+ghost use Rattle.sheet.specs.FirstByte.{withFar, bytesC0};
+ghost use Rattle.answers.specs.Answer.{Decodes, Names};
+
+// E0 to E3: branches by CW.
+fn loops(ram: &[u8], rom: &[u8], ps: u16, pc: u16, p: Prefixes, b: u8, i: u16) -> Decoded
+    requires { ⌜ (0xe0 ≤ b) × ((b < 0xe4) × (i ≤ 4)) ⌝ }
+    ensures { λ r. ⌜ Names (bytesC0 p) b (codeByte (now (ram .entry)) (now (rom .entry)) ps pc) i r ⌝ }
+{
+    let disp = fetch::code_short(ram, rom, ps, pc, i);
+    match b {
+        0xe0 => answers::tests(Conditional::Dbnzne { disp: disp }, i + 1),
+        0xe1 => answers::tests(Conditional::Dbnze { disp: disp }, i + 1),
+        0xe2 => answers::tests(Conditional::Dbnz { disp: disp }, i + 1),
+        _ => answers::tests(Conditional::Bcwz { disp: disp }, i + 1),
+    }
+}
+
+// E4 to E7: a port whose number follows.
+fn numbered_ports(ram: &[u8], rom: &[u8], ps: u16, pc: u16, p: Prefixes, b: u8, i: u16) -> Decoded
+    requires { ⌜ (0xe4 ≤ b) × ((b < 0xe8) × (i ≤ 4)) ⌝ }
+    ensures { λ r. ⌜ Names (bytesC0 p) b (codeByte (now (ram .entry)) (now (rom .entry)) ps pc) i r ⌝ }
+{
+    let number = fetch::code_byte(ram, rom, ps, pc, i);
+    if b < 0xe6 {
+        return answers::ports(
+            Io::In {
+                word: (b - 0xe4) % 2 == 1,
+                port: Port::Numbered(number),
+            },
+            i + 1,
+        );
+    }
+    answers::ports(
+        Io::Out {
+            word: (b - 0xe6) % 2 == 1,
+            port: Port::Numbered(number),
+        },
+        i + 1,
+    )
+}
+
+fn branch_far(ram: &[u8], rom: &[u8], ps: u16, pc: u16, i: u16) -> Decoded
+    requires { ⌜ i ≤ 4 ⌝ }
+    ensures { λ r. ⌜ Decodes (withFar (λ s o. Branches (BrFar s o))) (codeByte (now (ram .entry)) (now (rom .entry)) ps pc) i r ⌝ }
+{
+    let offset = fetch::code_word(ram, rom, ps, pc, i);
+    let next = i + 2;
+    let segment = fetch::code_word(ram, rom, ps, pc, next);
+    answers::branches(
+        Branch::BrFar {
+            ps: segment,
+            pc: offset,
+        },
+        next + 2,
+    )
+}
+
+fn codese8(ram: &[u8], rom: &[u8], ps: u16, pc: u16, p: Prefixes, b: u8, i: u16) -> Decoded
+    requires { ⌜ (0xe8 ≤ b) × ((b < 0xec) × (i ≤ 4)) ⌝ }
+    ensures { λ r. ⌜ Names (bytesC0 p) b (codeByte (now (ram .entry)) (now (rom .entry)) ps pc) i r ⌝ }
+{
+    match b {
+        0xe8 => answers::branches(
+            Branch::CallNear {
+                disp: fetch::code_word(ram, rom, ps, pc, i),
+            },
+            i + 2,
+        ),
+        0xe9 => answers::branches(
+            Branch::BrNear {
+                disp: fetch::code_word(ram, rom, ps, pc, i),
+            },
+            i + 2,
+        ),
+        0xea => branch_far(ram, rom, ps, pc, i),
+        _ => answers::branches(
+            Branch::BrShort {
+                disp: fetch::code_short(ram, rom, ps, pc, i),
+            },
+            i + 1,
+        ),
+    }
+}
+
+pub fn codese0(ram: &[u8], rom: &[u8], ps: u16, pc: u16, p: Prefixes, b: u8, i: u16) -> Decoded
+    requires { ⌜ (0xe0 ≤ b) × ((b < 0xf0) × (i ≤ 4)) ⌝ }
+    ensures { λ r. ⌜ Names (bytesC0 p) b (codeByte (now (ram .entry)) (now (rom .entry)) ps pc) i r ⌝ }
+{
+    if b < 0xe4 {
+        return loops(ram, rom, ps, pc, p, b, i);
+    }
+    if b < 0xe8 {
+        return numbered_ports(ram, rom, ps, pc, p, b, i);
+    }
+    if b < 0xec {
+        return codese8(ram, rom, ps, pc, p, b, i);
+    }
+    if b < 0xee {
+        return answers::ports(
+            Io::In {
+                word: (b - 0xec) % 2 == 1,
+                port: Port::InDw,
+            },
+            i,
+        );
+    }
+    answers::ports(
+        Io::Out {
+            word: (b - 0xee) % 2 == 1,
+            port: Port::InDw,
+        },
+        i,
+    )
+}
