@@ -1,0 +1,26 @@
+use Rattle.codes00.proofs.Laws.{at-acc, at-places}
+use borrow.Author.Needs.{needs}
+use Rattle.codes00.proofs.codes00.Statement.{statement}
+use Rattle.codes00.proofs.codes00.Tie as tie
+
+returns : tie.Need-returns
+returns c = at-places _ (search needs) (search needs) (c .before .operation-at .ensures) (c .two-places .ensures)
+
+returns-2 : tie.Need-returns-2
+returns-2 c = at-acc _ (search needs) (search needs) (search needs) (c .before .operation-at2 .ensures) (c .with-acc .ensures)
+
+pub codes00-spec : {M : Type 1} → statement M
+codes00-spec =
+    tie.close
+    (tie.spec
+    (λ c κs. search needs)
+    (λ c κs. search needs)
+    returns
+    (λ c κs. search needs)
+    (λ c. search needs)
+    (λ c κs. search needs)
+    returns-2
+    (λ c κs. search needs)
+    (λ c. search needs)
+    (λ c κs. search needs)
+    (λ c. search needs))

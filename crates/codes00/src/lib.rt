@@ -1,0 +1,144 @@
+// The first bytes 00 to 3F, by their low three bits: eight operations in six codes each, then segments, 0F and decimal adjusts.
+use answers::Decoded;
+use sheet::Arithmetic;
+use sheet::Convert;
+use sheet::Operation;
+use sheet::Place;
+use sheet::Prefixes;
+use sheet::Source;
+use sheet::Stack;
+ghost use mathlib.Core.Path.{_≡_};
+ghost use Prim.Native.Nat.{_%_, _≤_, _<_};
+ghost use Rattle.sheet.specs.declared.Instr.the-variants.{Calculates};
+ghost use Rattle.sheet.specs.declared.Arithmetic.the-variants.{Two};
+ghost use Rattle.sheet.specs.declared.Place.the-variants.{Register as RegisterIs};
+ghost use Rattle.sheet.specs.Registers.{AW};
+ghost use Rattle.sheet.specs.Reading.{got};
+ghost use Rattle.sheet.specs.Encoding.{W};
+ghost use Rattle.sheet.specs.Step.{codeByte};
+ghost use Rattle.sheet.specs.FirstByte.{withPlace, withAcc, twoPlaces, bytes00};
+ghost use Rattle.answers.specs.Answer.{Decodes, Names};
+
+// Numbers: of AW and AL, and of the segments.
+const ACC: u8 = 0;
+
+const DS1: u8 = 0;
+
+const SS: u8 = 2;
+
+const DS0: u8 = 3;
+
+// A register and a place: bit 1 of the code says which one is the destination.
+fn two_places(
+    ram: &[u8],
+    rom: &[u8],
+    ps: u16,
+    pc: u16,
+    p: Prefixes,
+    op: Operation,
+    n: u8,
+    i: u16,
+) -> Decoded
+    requires { ⌜ i ≤ 4 ⌝ }
+    ensures { λ r. ⌜ Decodes (withPlace p (λ reg a. got (twoPlaces op n reg a))) (codeByte (now (ram .entry)) (now (rom .entry)) ps pc) i r ⌝ }
+{
+    let o = places::operands(ram, rom, ps, pc, p, i);
+    let place = o.place;
+    if n / 2 % 2 == 1 {
+        return answers::calculates(
+            Arithmetic::Two {
+                op: op,
+                word: n % 2 == 1,
+                to: Place::Register(o.reg),
+                from: Source::Held(place),
+            },
+            o.next,
+        );
+    }
+    answers::calculates(
+        Arithmetic::Two {
+            op: op,
+            word: n % 2 == 1,
+            to: place,
+            from: Source::Held(Place::Register(o.reg)),
+        },
+        o.next,
+    )
+}
+
+// The accumulator and an immediate.
+fn with_acc(ram: &[u8], rom: &[u8], ps: u16, pc: u16, op: Operation, n: u8, i: u16) -> Decoded
+    requires { ⌜ i ≤ 4 ⌝ }
+    ensures { λ r. ⌜ Decodes (withAcc (λ v. Calculates (Two op (W n) (RegisterIs AW) v)) (W n)) (codeByte (now (ram .entry)) (now (rom .entry)) ps pc) i r ⌝ }
+{
+    let word = n % 2 == 1;
+    let v = fetch::code_immediate(ram, rom, ps, pc, word, i);
+    answers::calculates(
+        Arithmetic::Two {
+            op: op,
+            word: word,
+            to: Place::Register(ACC),
+            from: Source::Immediate(v.value),
+        },
+        v.next,
+    )
+}
+
+// 06, 0E, 16, 1E push a segment register; 26, 2E, 36, 3E are prefixes and name no instruction.
+fn column6(ram: &[u8], rom: &[u8], ps: u16, pc: u16, p: Prefixes, b: u8, i: u16) -> Decoded
+    requires { ⌜ (b < 0x40) × ((b % 8 ≡ 6) × (i ≤ 4)) ⌝ }
+    ensures { λ r. ⌜ Names (bytes00 p) b (codeByte (now (ram .entry)) (now (rom .entry)) ps pc) i r ⌝ }
+{
+    if b < 0x20 {
+        return answers::stacks(Stack::PushSegment { seg: b / 8 }, i);
+    }
+    Decoded::Unknown { number: 3 }
+}
+
+// 07, 0F, 17, .. 3F.
+fn column7(ram: &[u8], rom: &[u8], ps: u16, pc: u16, p: Prefixes, b: u8, i: u16) -> Decoded
+    requires { ⌜ (b < 0x40) × ((b % 8 ≡ 7) × (i ≤ 4)) ⌝ }
+    ensures { λ r. ⌜ Names (bytes00 p) b (codeByte (now (ram .entry)) (now (rom .entry)) ps pc) i r ⌝ }
+{
+    if b < 0x08 {
+        return answers::stacks(Stack::PopSegment { seg: DS1 }, i);
+    }
+    if b < 0x10 {
+        let second = fetch::code_byte(ram, rom, ps, pc, i);
+        return codes0f::codes0f(ram, rom, ps, pc, p, second, i + 1);
+    }
+    if b < 0x18 {
+        return answers::stacks(Stack::PopSegment { seg: SS }, i);
+    }
+    if b < 0x20 {
+        return answers::stacks(Stack::PopSegment { seg: DS0 }, i);
+    }
+    if b < 0x28 {
+        return answers::converts(Convert::Adj4a, i);
+    }
+    if b < 0x30 {
+        return answers::converts(Convert::Adj4s, i);
+    }
+    if b < 0x38 {
+        return answers::converts(Convert::Adjba, i);
+    }
+    answers::converts(Convert::Adjbs, i)
+}
+
+pub fn codes00(ram: &[u8], rom: &[u8], ps: u16, pc: u16, p: Prefixes, b: u8, i: u16) -> Decoded
+    requires { ⌜ (b < 0x40) × (i ≤ 4) ⌝ }
+    ensures { λ r. ⌜ Names (bytes00 p) b (codeByte (now (ram .entry)) (now (rom .entry)) ps pc) i r ⌝ }
+{
+    if b % 8 < 4 {
+        let op = places::operation_at(b / 8);
+        return two_places(ram, rom, ps, pc, p, op, b % 8, i);
+    }
+    if b % 8 < 6 {
+        let op = places::operation_at(b / 8);
+        return with_acc(ram, rom, ps, pc, op, b % 8 - 4, i);
+    }
+    if b % 8 == 6 {
+        return column6(ram, rom, ps, pc, p, b, i);
+    }
+    column7(ram, rom, ps, pc, p, b, i)
+}
