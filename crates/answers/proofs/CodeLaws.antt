@@ -1,16 +1,15 @@
 -- The answer for one code of a table: by the row that starts at a code, or by none.
 use Prim.Native.Nat.{ℕ, zero, suc, _+_, _-_, _≤_, _<_}
 use mathlib.Core.Path.{_≡_, refl, sym, _∙_}
-use mathlib.Core.Logic.{_⊎_, inl, inr, ⊎-elim}
+use mathlib.Core.Logic.{inl, inr}
 use mathlib.Core.Bool.{Bool, true, false, not, _&&_, _||_}
 use mathlib.Core.List.{List, [], _∷_}
 use native.Mathlib.Omega.{arith}
 use lib.Dec.{eqb, leb, ltb}
 use borrow.Author.Tests.{eqb-true, eqb-false, ne-eqb, leb-true, le-leb, lt-ltb, le-ltb}
 use types.Run.{OneOf}
-use Rattle.sheet.specs.declared.Instr.{Instr}
 use Rattle.sheet.specs.Width.{pick}
-use Rattle.sheet.specs.Reading.{Reading, no}
+use Rattle.sheet.specs.Reading.{no}
 use Rattle.sheet.specs.Encoding.{Row, row, covers, lookUp}
 use Rattle.answers.specs.declared.Decoded.{Decoded}
 use Rattle.answers.specs.declared.Decoded.the-variants.{Unknown}
@@ -120,12 +119,9 @@ module _ {t : List Row} {b : ℕ} {src : ℕ → ℕ} {i : ℕ} where
   pub at-row : (n : ℕ) {r : Decoded} → starts n t ≡ true → n ≤ b → b < n + rowFrom n t .many → Decodes (rowFrom n t .reads (b - n)) src i r → Names t b src i r
   at-row n e h k x = record { is = decodes-as (row-at t n b e h k) x }
 
-  -- rows of one code and of two
+  -- a row of one code
   pub at-one : (n : ℕ) {r : Decoded} → starts n t ≡ true → leb 1 (rowFrom n t .many) ≡ true → b ≡ n → Decodes (rowFrom n t .reads (b - n)) src i r → Names t b src i r
   at-one n e s q x = let l = leb-true 1 (rowFrom n t .many) s in at-row n e (omega arith) (omega arith) x
-
-  pub at-two : (n : ℕ) {r : Decoded} → starts n t ≡ true → leb 2 (rowFrom n t .many) ≡ true → (b ≡ n) ⊎ (b ≡ n + 1) → Decodes (rowFrom n t .reads (b - n)) src i r → Names t b src i r
-  at-two n e s q x = let l = leb-true 2 (rowFrom n t .many) s in at-row n e (⊎-elim (λ w. omega arith) (λ w. omega arith) q) (⊎-elim (λ w. omega arith) (λ w. omega arith) q) x
 
   -- of n codes from lo on, those that no arm took have no row
   pub at-rest : (lo n : ℕ) (arms : List (List ℕ)) → every (λ k. amongAll arms k || not (covered t k)) lo n ≡ true → Left Unit arms b → lo ≤ b → b < lo + n → Names t b src i (Unknown 3)
@@ -139,7 +135,3 @@ module _ {t : List Row} {b : ℕ} {src : ℕ → ℕ} {i : ℕ} where
       go true false f g = refl
       go false true f g = sym g
       go false false f g = refl
-
--- so the distance from the first of two codes is a number
-pub two-from : {b n : ℕ} → (b ≡ n) ⊎ (b ≡ n + 1) → n ≤ b
-two-from q = ⊎-elim (λ w. omega arith) (λ w. omega arith) q

@@ -2,9 +2,7 @@
 use Prim.Native.Nat.{ℕ}
 use mathlib.Core.Path.{_≡_, refl, _∙_, ap}
 use mathlib.Core.Bool.{Bool, true, false}
-use mathlib.Core.List.{List}
 use Rattle.sheet.specs.declared.Instr.{Instr}
-use Rattle.sheet.specs.Width.{pick}
 use Rattle.sheet.specs.Reading.{Reading, got, no, _>>=_, Read, known, unknown, scan, allow}
 use Rattle.sheet.specs.Contract.{Reads, Refuses}
 use Rattle.sheet.proofs.ReadingLaws.{scan-bind, reads-allowed, refuses-allowed}

@@ -1,11 +1,11 @@
 -- Instructions that a number follows, or nothing.
-use Prim.Native.Nat.{ℕ, _+_}
+use Prim.Native.Nat.{ℕ}
 use mathlib.Core.Path.{_≡_}
 use mathlib.Core.Bool.{Bool}
 use Rattle.sheet.specs.declared.Instr.{Instr}
 use Rattle.sheet.specs.declared.Source.{Source}
 use Rattle.sheet.specs.declared.Source.the-variants.{Immediate}
-use Rattle.sheet.specs.Reading.{Reading, got, byte, word, signedByte, immediate}
+use Rattle.sheet.specs.Reading.{got, byte, word, signedByte, immediate}
 use Rattle.sheet.specs.FirstByte.{withByte, withWord, withShort, withFar, withAcc}
 use Rattle.sheet.specs.Contract.{Reads}
 use Rattle.answers.specs.declared.Decoded.{Decoded}

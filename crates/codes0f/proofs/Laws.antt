@@ -1,5 +1,5 @@
 -- What each return of the code comes to, over plain values.
-use Prim.Native.Nat.{ℕ, _+_, _/_, _%_}
+use Prim.Native.Nat.{ℕ, _/_, _%_}
 use mathlib.Core.Path.{_≡_, refl}
 use mathlib.Core.Bool.{Bool, true, false, _&&_}
 use native.Mathlib.Omega.{arith}
@@ -14,7 +14,7 @@ use Rattle.sheet.specs.declared.Prefixes.{Prefixes}
 use Rattle.sheet.specs.declared.Instr.{Instr}
 use Rattle.sheet.specs.declared.Instr.the-variants.{Bits}
 use Rattle.sheet.specs.Reading.{got, byte}
-use Rattle.sheet.specs.Encoding.{W, modField, regField, memField}
+use Rattle.sheet.specs.Encoding.{W, modField, regField}
 use Rattle.sheet.specs.SecondByte.{bitInCl, bitGiven, fieldInRegister, fieldGiven}
 use Rattle.sheet.specs.Contract.{Reads}
 use Rattle.answers.specs.declared.Decoded.{Decoded}

@@ -9,7 +9,6 @@ use sheet::Prefixes;
 use sheet::Primitive;
 use sheet::Stack;
 use sheet::Unary;
-ghost use mathlib.Core.Path.{_≡_};
 ghost use Prim.Native.Nat.{_≤_, _<_};
 ghost use Rattle.sheet.specs.declared.Instr.the-variants.{Multiplies, Interrupts};
 ghost use Rattle.sheet.specs.declared.Multiply.the-variants.{MulByte, MulWord};

@@ -7,7 +7,6 @@ use sheet::Prefixes;
 use sheet::Source;
 use sheet::Stack;
 use sheet::Transfer;
-ghost use mathlib.Core.Path.{_≡_};
 ghost use Prim.Native.Nat.{ℕ, _≤_, _<_};
 ghost use Rattle.sheet.specs.declared.Instr.the-variants.{Transfers, Stacks};
 ghost use Rattle.sheet.specs.declared.Transfer.the-variants.{Ldea};

@@ -10,7 +10,6 @@ use sheet::Primitive;
 use sheet::Source;
 use sheet::Stack;
 use sheet::Transfer;
-ghost use mathlib.Core.Path.{_≡_};
 ghost use Prim.Native.Nat.{_≤_, _<_};
 ghost use Rattle.sheet.specs.declared.Instr.the-variants.{Branches, Calculates};
 ghost use Rattle.sheet.specs.declared.Branch.the-variants.{CallFar};

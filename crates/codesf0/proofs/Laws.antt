@@ -7,7 +7,7 @@ use Rattle.sheet.specs.declared.Place.{Place}
 use Rattle.sheet.specs.declared.Place.the-variants.{Register, Memory}
 use Rattle.sheet.specs.declared.Prefixes.{Prefixes}
 use Rattle.sheet.specs.declared.Instr.{Instr}
-use Rattle.sheet.specs.Reading.{Reading, got, _>>=_, immediate}
+use Rattle.sheet.specs.Reading.{got, _>>=_, immediate}
 use Rattle.sheet.specs.Encoding.{place, memory}
 use Rattle.answers.specs.declared.Decoded.{Decoded}
 use Rattle.answers.specs.declared.Decoded.the-variants.{Known, Unknown}

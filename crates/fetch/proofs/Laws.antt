@@ -1,13 +1,13 @@
 -- What each return of the code comes to, over plain values.
-use Prim.Native.Nat.{ℕ, _+_, _*_, _≤_}
+use Prim.Native.Nat.{ℕ, _+_, _*_}
 use mathlib.Core.Path.{_≡_}
 use mathlib.Core.Bool.{Bool, true, false}
 use mathlib.Core.List.{List}
 use native.Mathlib.Nat.{add-assoc}
 use native.Mathlib.Omega.{arith}
-use Rattle.sheet.specs.Width.{pick, add16, extend}
+use Rattle.sheet.specs.Width.{add16, extend}
 use Rattle.sheet.specs.Memory.{byteAt, physical}
-use Rattle.sheet.specs.Reading.{Reading, byte, word, signedByte, immediate}
+use Rattle.sheet.specs.Reading.{byte, word, signedByte, immediate}
 use Rattle.sheet.specs.Contract.{Reads}
 use Rattle.sheet.proofs.ReadingLaws.{reads-seq, reads-got, reads-byte, read-true, read-false}
 use Rattle.answers.specs.Answer.{Takes}

@@ -1,5 +1,4 @@
 // Code bytes, one after the other: the source is RAM, ROM, PS and PC, and i says how many were read so far.
-ghost use mathlib.Core.Path.{_≡_};
 ghost use Prim.Native.Nat.{ℕ, _+_, _≤_};
 ghost use Rattle.sheet.specs.Reading.{byte, word as wordRead, signedByte, immediate as immediateRead};
 ghost use Rattle.sheet.specs.Step.{codeByte};

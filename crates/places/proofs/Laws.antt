@@ -1,5 +1,5 @@
 -- What each return of the code comes to, over plain values.
-use Prim.Native.Nat.{ℕ, zero, suc, _+_, _*_, _/_, _%_, _≤_, _<_}
+use Prim.Native.Nat.{ℕ, zero, suc, _+_, _*_, _/_, _%_, _<_}
 use mathlib.Core.Path.{_≡_, refl}
 use mathlib.Core.Bool.{Bool, true, false, _&&_}
 use mathlib.Core.List.{[], _∷_}
@@ -10,7 +10,7 @@ use lib.Dec.{eqb}
 use lib.ListN.{getD}
 use Rattle.sheet.specs.declared.Form.{Form}
 use Rattle.sheet.specs.declared.Address.{Address}
-use Rattle.sheet.specs.declared.Address.the-variants.{Formed, Direct}
+use Rattle.sheet.specs.declared.Address.the-variants.{Formed}
 use Rattle.sheet.specs.declared.Place.{Place}
 use Rattle.sheet.specs.declared.Place.the-variants.{Register, Memory}
 use Rattle.sheet.specs.declared.Prefixes.{Prefixes}
@@ -21,7 +21,7 @@ use Rattle.sheet.specs.declared.Shift.the-variants.{Rol, Ror, Rolc, Rorc, Shl, 
 use Rattle.sheet.specs.declared.Instr.the-variants.{Blocks}
 use Rattle.sheet.specs.Operand.{formAt}
 use Rattle.sheet.specs.Reading.{byte, word, signedByte}
-use Rattle.sheet.specs.Encoding.{segOr, modField, regField, memField, formed, direct, displacement, withDisplacement, withOffset, address, inMemory, place}
+use Rattle.sheet.specs.Encoding.{segOr, modField, memField, formed, direct, displacement, withDisplacement, withOffset, address, inMemory, place}
 use Rattle.sheet.specs.FirstByte.{shifts}
 use Rattle.sheet.specs.Contract.{Reads}
 use Rattle.sheet.proofs.ReadingLaws.{reads-seq, reads-got, read-true, read-false}

@@ -1,0 +1,123 @@
+-- The table of first bytes by its parts, and prefixes before an instruction.
+use Prim.Native.Nat.{ℕ, zero, suc, _+_, _-_, _≤_, _<_}
+use mathlib.Core.Path.{_≡_, refl, _∙_}
+use mathlib.Core.Bool.{Bool, true, false, _&&_}
+use mathlib.Core.List.{List, [], _∷_, _++_}
+use mathlib.Core.Option.{Option, none, some}
+use native.Mathlib.Omega.{arith}
+use lib.Dec.{leb, ltb}
+use borrow.Author.Tests.{ne-eqb, leb-true, lt-leb, le-ltb}
+use Rattle.sheet.specs.declared.Prefixes.{Prefixes}
+use Rattle.sheet.specs.Reading.{no, byte}
+use Rattle.sheet.specs.Encoding.{Prefix, prefixOf, withPrefix, Row, covers, lookUp}
+use Rattle.sheet.specs.FirstByte.{bytes00, bytes40, bytes80, bytesC0, firstBytes, afterPrefix, prefixed}
+use Rattle.sheet.specs.Contract.{Reads}
+use Rattle.answers.specs.declared.Decoded.{Decoded}
+use Rattle.answers.specs.declared.Decoded.the-variants.{Unknown}
+use Rattle.answers.specs.Answer.{Decodes, Names}
+use Rattle.answers.proofs.DecodesLaws.{decodes-no, decodes-seq, decodes-as}
+use Rattle.answers.proofs.CodeLaws.{Left}
+use Rattle.decode.specs.declared.Found.{Found}
+use Rattle.decode.specs.Found.{found}
+
+-- ---- the table by its parts
+
+-- every row of a list ends at n or below; every row starts at n or above
+abbrev below : ℕ → List Row → Bool
+below n [] = true
+below n (r ∷ t) = leb (r .from + r .many) n && below n t
+
+abbrev above : ℕ → List Row → Bool
+above n [] = true
+above n (r ∷ t) = leb n (r .from) && above n t
+
+both : (a b : Bool) → (a && b) ≡ true → (a ≡ true) × (b ≡ true)
+both true b e = (refl, e)
+both false true e = (e, refl)
+both false false e = (e, e)
+
+past : (r : Row) (b : ℕ) → r .from + r .many ≤ b → covers r b ≡ false
+past r b h = go (leb (r .from) b)
+  where
+    go : (c : Bool) → (c && ltb b (r .from + r .many)) ≡ false
+    go true = le-ltb b (r .from + r .many) h
+    go false = refl
+
+-- a code past the rows of the first list is looked up in the second
+in-second : (s t : List Row) (n b : ℕ) → below n s ≡ true → n ≤ b → lookUp (s ++ t) b ≡ lookUp t b
+unfolding lookUp
+in-second [] t n b e h = refl
+in-second (r ∷ s) t n b e h =
+    let (x, y) = both (leb (r .from + r .many) n) (below n s) e in
+    let z = leb-true (r .from + r .many) n x in
+    rw (past r b (omega arith)) (in-second s t n b y h)
+
+-- a code before the rows of the second is looked up in the first
+nowhere : (t : List Row) (n b : ℕ) → above n t ≡ true → b < n → lookUp t b ≡ no 3
+unfolding lookUp
+nowhere [] n b e h = refl
+nowhere (r ∷ t) n b e h =
+    let (x, y) = both (leb n (r .from)) (above n t) e in
+    let z = leb-true n (r .from) x in
+    rw (lt-leb (r .from) b (omega arith)) (nowhere t n b y h)
+
+in-first : (s t : List Row) (n b : ℕ) → above n t ≡ true → b < n → lookUp (s ++ t) b ≡ lookUp s b
+unfolding lookUp
+in-first [] t n b e h = nowhere t n b e h
+in-first (r ∷ s) t n b e h = rw (in-first s t n b e h)
+
+module _ (p : Prefixes) {b : ℕ} {src : ℕ → ℕ} {i : ℕ} {r : Decoded} where
+  pub from-00 : b < 0x40 → Names (bytes00 p) b src i r → Names (firstBytes p) b src i r
+  from-00 h x = record { is = decodes-as (in-first (bytes00 p) _ 0x40 b refl h) (x .is) }
+
+  pub from-40 : 0x40 ≤ b → b < 0x80 → Names (bytes40 p) b src i r → Names (firstBytes p) b src i r
+  from-40 l h x = record { is = decodes-as (in-second (bytes00 p) _ 0x40 b refl l ∙ in-first (bytes40 p) _ 0x80 b refl h) (x .is) }
+
+  pub from-80 : 0x80 ≤ b → b < 0xc0 → Names (bytes80 p) b src i r → Names (firstBytes p) b src i r
+  from-80 l h x =
+      let k : 0x40 ≤ b = omega arith in
+      record { is = decodes-as (in-second (bytes00 p) _ 0x40 b refl k ∙ (in-second (bytes40 p) _ 0x80 b refl l ∙ in-first (bytes80 p) _ 0xc0 b refl h)) (x .is) }
+
+  pub from-c0 : 0xc0 ≤ b → Names (bytesC0 p) b src i r → Names (firstBytes p) b src i r
+  from-c0 l x =
+      let k : 0x40 ≤ b = omega arith in
+      let m : 0x80 ≤ b = omega arith in
+      record { is = decodes-as (in-second (bytes00 p) _ 0x40 b refl k ∙ (in-second (bytes40 p) _ 0x80 b refl m ∙ in-second (bytes80 p) _ 0xc0 b refl l)) (x .is) }
+
+-- ---- prefixes
+
+pub no-prefix : (p : Prefixes) (b : ℕ) → Left Unit ((0x26 ∷ []) ∷ (0x2e ∷ []) ∷ (0x36 ∷ []) ∷ (0x3e ∷ []) ∷ (0x64 ∷ []) ∷ (0x65 ∷ []) ∷ (0xf0 ∷ []) ∷ (0xf2 ∷ []) ∷ (0xf3 ∷ []) ∷ []) b → found none p ≡ found (prefixOf b) p
+unfolding prefixOf
+no-prefix p b (((((((((u, e), f), g), h), i), j), k), l), m) =
+    rw (ne-eqb b 0x26 e, ne-eqb b 0x2e f, ne-eqb b 0x36 g, ne-eqb b 0x3e h, ne-eqb b 0x64 i, ne-eqb b 0x65 j, ne-eqb b 0xf0 k, ne-eqb b 0xf2 l, ne-eqb b 0xf3 m)
+
+-- what the code's answer says of a byte
+none-of : (o : Option Prefix) (p : Prefixes) (f : Found) → f ≡ found o p → f .prefix ≡ false → o ≡ none
+unfolding found
+none-of none p f e h = refl
+none-of (some q) p f e h = let z : _≡_ {A = ℕ} 0 1 = cc in absurd (omega arith)
+
+module _ (p : Prefixes) (b : ℕ) (f : Found) (e : f ≡ found (prefixOf b) p) {src : ℕ → ℕ} {i : ℕ} (x : Reads ℕ byte src i b (i + 1)) where
+  pub no-more : (room : ℕ) {r : Decoded} → f .prefix ≡ false → Names (firstBytes p) b src (i + 1) r → Decodes (prefixed room p) src i r
+  unfolding prefixed afterPrefix
+  no-more zero h y = decodes-seq _ x (rw (none-of (prefixOf b) p f e h) (y .is))
+  no-more (suc room) h y = decodes-seq _ x (rw (none-of (prefixOf b) p f e h) (y .is))
+
+  pub too-many : f .prefix ≡ true → i ≡ 3 → Decodes (prefixed (3 - i) p) src i (Unknown 4)
+  unfolding prefixed afterPrefix found
+  too-many h k = go (prefixOf b) refl e
+    where
+      go : (o : Option Prefix) → prefixOf b ≡ o → f ≡ found o p → Decodes (prefixed (3 - i) p) src i (Unknown 4)
+      go none q e = let z : _≡_ {A = ℕ} 0 1 = cc in absurd (omega arith)
+      go (some s) q e = let l : 3 - i ≡ 0 = omega arith in rw l (decodes-seq _ x (rw q decodes-no))
+
+  pub one-more : {r : Decoded} → f .prefix ≡ true → i ≤ 3 → (i ≡ 3 → ⊥) → Decodes (prefixed (3 - (i + 1)) (f .prefixes)) src (i + 1) r → Decodes (prefixed (3 - i) p) src i r
+  unfolding prefixed afterPrefix found
+  one-more {r} h l k y = go (prefixOf b) refl e
+    where
+      go : (o : Option Prefix) → prefixOf b ≡ o → f ≡ found o p → Decodes (prefixed (3 - i) p) src i r
+      go none q e = let z : _≡_ {A = ℕ} 0 1 = cc in absurd (omega arith)
+      go (some s) q e =
+          let m : 3 - i ≡ suc (3 - (i + 1)) = omega (arith, k) in
+          let z : f .prefixes ≡ withPrefix p s = rw e in
+          rw m (decodes-seq _ x (rw q (rw z at y)))

@@ -1,0 +1,11 @@
+use Rattle.sheet.specs.FirstByte.{instruction}
+use borrow.Author.Needs.{needs}
+use Rattle.decode.proofs.decode.Statement.{statement}
+use Rattle.decode.proofs.decode.Tie as tie
+
+returns : tie.Need-returns
+unfolding instruction
+returns c = c .after .ensures
+
+pub decode-spec : {M : Type 1} → statement M
+decode-spec = tie.close (tie.spec (λ c κs. search needs) returns)
