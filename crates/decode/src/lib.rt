@@ -4,13 +4,14 @@ use sheet::Override;
 use sheet::Prefixes;
 use sheet::Repeat;
 ghost use mathlib.Core.Path.{_≡_};
-ghost use Prim.Native.Nat.{_-_, _≤_, _<_};
+ghost use Prim.Native.Nat.{_≤_};
 ghost use mathlib.Core.Option.{some};
-ghost use Rattle.sheet.specs.Encoding.{segmentPrefix, repeatPrefix, prefixOf};
+ghost use Rattle.sheet.specs.Encoding.{segmentPrefix, repeatPrefix, prefixOf, unprefixed};
 ghost use Rattle.sheet.specs.Step.{codeByte};
-ghost use Rattle.sheet.specs.FirstByte.{bytesC0, firstBytes, prefixed, instruction};
+ghost use Rattle.sheet.specs.FirstByte.{bytesC0, firstBytes, instruction};
 ghost use Rattle.answers.specs.Answer.{Decodes, Names};
 ghost use Rattle.decode.specs.Found.{found};
+ghost use Rattle.decode.specs.Opening.{Opens};
 
 // Numbers of segments.
 const DS1: u8 = 0;
@@ -28,6 +29,14 @@ const MOST: u16 = 3;
 pub struct Found {
     pub prefix: bool,
     pub prefixes: Prefixes,
+}
+
+// Where an instruction begins after its prefixes: its first byte and how many bytes were read then, or a fourth prefix.
+pub struct Opening {
+    pub fourth: bool,
+    pub prefixes: Prefixes,
+    pub byte: u8,
+    pub next: u16,
 }
 
 // A segment named, a repeat named.
@@ -117,30 +126,63 @@ fn first(ram: &[u8], rom: &[u8], ps: u16, pc: u16, p: Prefixes, b: u8, i: u16) -
     first_high(ram, rom, ps, pc, p, b, i)
 }
 
-// After i prefixes.
-fn after(ram: &[u8], rom: &[u8], ps: u16, pc: u16, p: Prefixes, i: u16) -> Decoded
+// The prefixes from the byte i on, and the byte after them.
+fn later(ram: &[u8], rom: &[u8], ps: u16, pc: u16, p: Prefixes, i: u16) -> Opening
     requires { ⌜ i ≤ 3 ⌝ }
-    ensures { λ r. ⌜ Decodes (prefixed (3 - i) p) (codeByte (now (ram .entry)) (now (rom .entry)) ps pc) i r ⌝ }
+    ensures { λ r. ⌜ Opens p (codeByte (now (ram .entry)) (now (rom .entry)) ps pc) i r ⌝ }
 {
     let b = fetch::code_byte(ram, rom, ps, pc, i);
     let f = prefix(p, b);
     if f.prefix {
         if i == MOST {
-            return Decoded::Unknown { number: 4 };
+            return Opening {
+                fourth: true,
+                prefixes: p,
+                byte: b,
+                next: i + 1,
+            };
         }
         let prefixes = f.prefixes;
-        return after(ram, rom, ps, pc, prefixes, i + 1);
+        return later(ram, rom, ps, pc, prefixes, i + 1);
     }
-    first(ram, rom, ps, pc, p, b, i + 1)
+    Opening {
+        fourth: false,
+        prefixes: p,
+        byte: b,
+        next: i + 1,
+    }
+}
+
+// The same from the beginning: most instructions have no prefix, and a function that calls itself is not built into its caller.
+fn start(ram: &[u8], rom: &[u8], ps: u16, pc: u16) -> Opening
+    ensures { λ r. ⌜ Opens unprefixed (codeByte (now (ram .entry)) (now (rom .entry)) ps pc) 0 r ⌝ }
+{
+    let none = Prefixes {
+        seg: Override::Usual,
+        repeat: Repeat::Once,
+    };
+    let b = fetch::code_byte(ram, rom, ps, pc, 0);
+    let f = prefix(none, b);
+    if f.prefix {
+        let prefixes = f.prefixes;
+        return later(ram, rom, ps, pc, prefixes, 1);
+    }
+    Opening {
+        fourth: false,
+        prefixes: none,
+        byte: b,
+        next: 1,
+    }
 }
 
 // The instruction at PS:PC.
 pub fn decode(ram: &[u8], rom: &[u8], ps: u16, pc: u16) -> Decoded
     ensures { λ r. ⌜ Decodes instruction (codeByte (now (ram .entry)) (now (rom .entry)) ps pc) 0 r ⌝ }
 {
-    let none = Prefixes {
-        seg: Override::Usual,
-        repeat: Repeat::Once,
-    };
-    after(ram, rom, ps, pc, none, 0)
+    let s = start(ram, rom, ps, pc);
+    if s.fourth {
+        return Decoded::Unknown { number: 4 };
+    }
+    let prefixes = s.prefixes;
+    first(ram, rom, ps, pc, prefixes, s.byte, s.next)
 }
