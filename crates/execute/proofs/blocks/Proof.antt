@@ -1,0 +1,60 @@
+use Rattle.execute.proofs.Laws.{at-inm, at-outm, no-port}
+use borrow.Author.Needs.{needs}
+use Rattle.execute.proofs.blocks.Statement.{statement}
+use Rattle.execute.proofs.blocks.Tie as tie
+
+returns : tie.Need-returns
+returns c = search (no-port, needs)
+
+returns-2 : tie.Need-returns-2
+returns-2 c = search (no-port, needs)
+
+returns-3 : tie.Need-returns-3
+returns-3 c = search (no-port, needs)
+
+returns-4 : tie.Need-returns-4
+returns-4 c = search (no-port, needs)
+
+returns-5 : tie.Need-returns-5
+returns-5 c = search (no-port, needs)
+
+returns-6 : tie.Need-returns-6
+returns-6 c = search (at-inm, needs)
+
+returns-7 : tie.Need-returns-7
+returns-7 c = search (at-outm, needs)
+
+pub blocks-spec : {M : Type 1} → statement M
+blocks-spec =
+    tie.close
+    (tie.spec
+    (λ c. search needs)
+    (λ c κs. search needs)
+    (λ c. search needs)
+    (λ c κs. search needs)
+    (λ c. search needs)
+    (λ c κs. search needs)
+    (λ c. search needs)
+    (λ c κs. search needs)
+    (λ c. search needs)
+    (λ c κs. search needs)
+    (λ c. search needs)
+    (λ c κs. search needs)
+    (λ c. search needs)
+    (λ c κs. search needs)
+    (λ c. search needs)
+    returns
+    (λ c. search needs)
+    returns-2
+    (λ c. search needs)
+    returns-3
+    (λ c. search needs)
+    returns-4
+    (λ c. search needs)
+    returns-5
+    (λ c. search needs)
+    (λ c. search needs)
+    returns-6
+    (λ c. search needs)
+    (λ c. search needs)
+    returns-7)

@@ -1,0 +1,309 @@
+// Every instruction's operation, by its group.
+use do_block::Portless;
+use do_port::Ported;
+use do_port_block::Streaming;
+use sheet::Bus;
+use sheet::Instr;
+use sheet::Primitive;
+use sheet::Progress;
+use sheet::Repeat;
+ghost use mathlib.Core.Path.{_≡_};
+ghost use Rattle.sheet.specs.Block as tree;
+ghost use Rattle.sheet.specs.Execute.{operation};
+ghost use Rattle.ports.specs.Accesses.{OnPorts};
+ghost use Rattle.execute.specs.Performs.{Performs};
+
+// A block instruction, with or without ports.
+fn blocks(
+    file: &mut [u16; 14],
+    ram: &mut [u8],
+    rom: &[u8],
+    tape: &[u8],
+    log: &mut [u8],
+    q: Progress,
+    primitive: Primitive,
+    word: bool,
+    seg: u8,
+    repeat: Repeat,
+    start: u16,
+) -> Ported
+    ensures { λ r. ⌜ OnPorts (tree.block primitive word seg repeat start) (now (file .entry)) (now (ram .entry)) (now (rom .entry)) (now (tape .entry)) (now (log .entry)) q (r .number) (now (file .exit)) (now (ram .exit)) (now (log .exit)) (r .progress) (r .bus) 4 ⌝ }
+{
+    match primitive {
+        Primitive::Movbk => {
+            let b = do_block::block(file, ram, rom, Portless::Movbk, word, seg, repeat, start);
+            Ported {
+                number: 0,
+                progress: q,
+                bus: b,
+            }
+        }
+        Primitive::Cmpbk => {
+            let b = do_block::block(file, ram, rom, Portless::Cmpbk, word, seg, repeat, start);
+            Ported {
+                number: 0,
+                progress: q,
+                bus: b,
+            }
+        }
+        Primitive::Cmpm => {
+            let b = do_block::block(file, ram, rom, Portless::Cmpm, word, seg, repeat, start);
+            Ported {
+                number: 0,
+                progress: q,
+                bus: b,
+            }
+        }
+        Primitive::Ldm => {
+            let b = do_block::block(file, ram, rom, Portless::Ldm, word, seg, repeat, start);
+            Ported {
+                number: 0,
+                progress: q,
+                bus: b,
+            }
+        }
+        Primitive::Stm => {
+            let b = do_block::block(file, ram, rom, Portless::Stm, word, seg, repeat, start);
+            Ported {
+                number: 0,
+                progress: q,
+                bus: b,
+            }
+        }
+        Primitive::Inm => do_port_block::stream(
+            file,
+            ram,
+            rom,
+            tape,
+            log,
+            q,
+            Streaming::Inm,
+            word,
+            seg,
+            repeat,
+            start,
+        ),
+        Primitive::Outm => do_port_block::stream(
+            file,
+            ram,
+            rom,
+            tape,
+            log,
+            q,
+            Streaming::Outm,
+            word,
+            seg,
+            repeat,
+            start,
+        ),
+    }
+}
+
+// What an instruction came to: the refusal's number, whether it took a trap itself, whether it halts, the places, the bus.
+pub struct Performed {
+    pub number: u8,
+    pub trapped: bool,
+    pub halts: bool,
+    pub progress: Progress,
+    pub bus: Bus,
+}
+
+// An instruction that began at the offset `start`; PC stands on the next one.
+pub fn perform(
+    file: &mut [u16; 14],
+    ram: &mut [u8],
+    rom: &[u8],
+    tape: &[u8],
+    log: &mut [u8],
+    q: Progress,
+    i: Instr,
+    start: u16,
+) -> Performed
+    ensures { λ r. ⌜ Performs (operation i start) (now (file .entry)) (now (ram .entry)) (now (rom .entry)) (now (tape .entry)) (now (log .entry)) q (r .number) (r .trapped) (r .halts) (now (file .exit)) (now (ram .exit)) (now (log .exit)) (r .progress) (r .bus) ⌝ }
+{
+    match i {
+        Instr::Transfers(t) => {
+            let b = do_move::transfer(file, ram, rom, t);
+            Performed {
+                number: 0,
+                trapped: false,
+                halts: false,
+                progress: q,
+                bus: b,
+            }
+        }
+        Instr::Calculates(t) => {
+            let b = do_arith::calculate(file, ram, rom, t);
+            Performed {
+                number: 0,
+                trapped: false,
+                halts: false,
+                progress: q,
+                bus: b,
+            }
+        }
+        Instr::Multiplies(t) => {
+            let w = do_multiply::multiply(file, ram, rom, t);
+            let b = w.bus;
+            Performed {
+                number: 0,
+                trapped: w.trapped,
+                halts: false,
+                progress: q,
+                bus: b,
+            }
+        }
+        Instr::Converts(t) => {
+            do_convert::convert(file, t);
+            Performed {
+                number: 0,
+                trapped: false,
+                halts: false,
+                progress: q,
+                bus: Bus { cycles: 0 },
+            }
+        }
+        Instr::Shifts {
+            kind,
+            word,
+            to,
+            places,
+        } => {
+            let b = do_shift::shift(file, ram, rom, kind, word, to, places);
+            Performed {
+                number: 0,
+                trapped: false,
+                halts: false,
+                progress: q,
+                bus: b,
+            }
+        }
+        Instr::Bits {
+            op,
+            word,
+            to,
+            number,
+        } => {
+            let b = do_bit::bits(file, ram, rom, op, word, to, number);
+            Performed {
+                number: 0,
+                trapped: false,
+                halts: false,
+                progress: q,
+                bus: b,
+            }
+        }
+        Instr::Decimals(t) => {
+            let b = do_decimal::decimal(file, ram, rom, t);
+            Performed {
+                number: 0,
+                trapped: false,
+                halts: false,
+                progress: q,
+                bus: b,
+            }
+        }
+        Instr::Fields(t) => {
+            let b = do_field::field(file, ram, rom, t);
+            Performed {
+                number: 0,
+                trapped: false,
+                halts: false,
+                progress: q,
+                bus: b,
+            }
+        }
+        Instr::Stacks(t) => {
+            let b = do_stack::stack(file, ram, rom, t);
+            Performed {
+                number: 0,
+                trapped: false,
+                halts: false,
+                progress: q,
+                bus: b,
+            }
+        }
+        Instr::Branches(t) => {
+            let b = do_branch::branch(file, ram, rom, t);
+            Performed {
+                number: 0,
+                trapped: false,
+                halts: false,
+                progress: q,
+                bus: b,
+            }
+        }
+        Instr::Tests(t) => {
+            do_conditional::conditional(file, t);
+            Performed {
+                number: 0,
+                trapped: false,
+                halts: false,
+                progress: q,
+                bus: Bus { cycles: 0 },
+            }
+        }
+        Instr::Interrupts(t) => {
+            let w = do_interrupt::interrupt(file, ram, rom, t);
+            let b = w.bus;
+            Performed {
+                number: 0,
+                trapped: w.trapped,
+                halts: false,
+                progress: q,
+                bus: b,
+            }
+        }
+        Instr::Blocks {
+            primitive,
+            word,
+            seg,
+            repeat,
+        } => {
+            let r = blocks(
+                file,
+                ram,
+                rom,
+                tape,
+                log,
+                q,
+                primitive,
+                word,
+                seg,
+                repeat,
+                start,
+            );
+            let p = r.progress;
+            let b = r.bus;
+            Performed {
+                number: r.number,
+                trapped: false,
+                halts: false,
+                progress: p,
+                bus: b,
+            }
+        }
+        Instr::Ports(t) => {
+            let r = do_port::access(file, ram, rom, tape, log, q, t);
+            let p = r.progress;
+            let b = r.bus;
+            Performed {
+                number: r.number,
+                trapped: false,
+                halts: false,
+                progress: p,
+                bus: b,
+            }
+        }
+        Instr::Controls(t) => {
+            let h = do_control::control(file, t);
+            Performed {
+                number: 0,
+                trapped: false,
+                halts: h,
+                progress: q,
+                bus: Bus { cycles: 0 },
+            }
+        }
+    }
+}

@@ -1,0 +1,26 @@
+use Rattle.stepper.proofs.Laws.{proceeds-done, proceeds-stop}
+use borrow.Author.Needs.{needs}
+use Rattle.stepper.proofs.proceed.Statement.{statement}
+use Rattle.stepper.proofs.proceed.Tie as tie
+
+returns : tie.Need-returns
+returns c = search (proceeds-stop, needs)
+
+returns-2 : tie.Need-returns-2
+returns-2 c = search (proceeds-done, needs)
+
+pub proceed-spec : {M : Type 1} → statement M
+proceed-spec =
+    tie.close
+    (tie.spec
+    (λ c. search needs)
+    (λ c κs. search needs)
+    (λ c κs. search needs)
+    (λ c κs. search needs)
+    (λ c. search needs)
+    (λ c. search needs)
+    returns
+    (λ c κs. search needs)
+    (λ c. search needs)
+    (λ c. search needs)
+    returns-2)
