@@ -26,17 +26,24 @@ abbrev pub starts : ℕ → List Row → Bool
 starts n [] = false
 starts n (r ∷ t) = pick (eqb (r .from) n) true (leb (r .from + r .many) n && starts n t)
 
-both : (a b : Bool) → (a && b) ≡ true → (a ≡ true) × (b ≡ true)
+-- two tests at once
+pub both : (a b : Bool) → (a && b) ≡ true → (a ≡ true) × (b ≡ true)
 both true b e = (refl, e)
 both false true e = (e, refl)
 both false false e = (e, e)
+
+pub not-both : (a b : Bool) → (a ≡ true → b ≡ true → ⊥) → (a && b) ≡ false
+not-both true true f = absurd (f refl refl)
+not-both true false f = refl
+not-both false true f = refl
+not-both false false f = refl
 
 passed : (r : Row) (t : List Row) (b : ℕ) → covers r b ≡ false → lookUp (r ∷ t) b ≡ lookUp t b
 unfolding lookUp
 passed r t b e = rw e
 
 -- a code past the end of a row
-above-row : (r : Row) (b : ℕ) → r .from + r .many ≤ b → covers r b ≡ false
+pub above-row : (r : Row) (b : ℕ) → r .from + r .many ≤ b → covers r b ≡ false
 above-row r b h = go (leb (r .from) b)
   where
     go : (c : Bool) → (c && ltb b (r .from + r .many)) ≡ false

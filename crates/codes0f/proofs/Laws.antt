@@ -1,7 +1,7 @@
 -- What each return of the code comes to, over plain values.
 use Prim.Native.Nat.{ℕ, _/_, _%_}
-use mathlib.Core.Path.{_≡_, refl}
-use mathlib.Core.Bool.{Bool, true, false, _&&_}
+use mathlib.Core.Path.{_≡_}
+use mathlib.Core.Bool.{true, _&&_}
 use native.Mathlib.Omega.{arith}
 use lib.Dec.{eqb}
 use borrow.Author.Tests.{eq-eqb, ne-eqb, eqb-true}
@@ -21,6 +21,7 @@ use Rattle.answers.specs.declared.Decoded.{Decoded}
 use Rattle.answers.specs.declared.Decoded.the-variants.{Known, Unknown}
 use Rattle.answers.specs.Answer.{Decodes}
 use Rattle.answers.proofs.DecodesLaws.{decodes-seq, decodes-refused, decodes-allowed, decodes-barred}
+use Rattle.answers.proofs.CodeLaws.{not-both}
 use Rattle.answers.proofs.FollowLaws.{decodes-known}
 use Rattle.places.specs.Operands.{Operands}
 use Rattle.places.proofs.OperandsLaws.{plain-reads, plain-refuses}
@@ -61,10 +62,4 @@ module _ {src : ℕ → ℕ} {i j m : ℕ} (k : ℕ → Length → Instr) (x : R
 
   pub no-given : (m / 8 ≡ 24 → ⊥) → Decodes (fieldGiven (λ o l. got (k o l))) src i (Unknown 3)
   unfolding fieldGiven
-  no-given h = decodes-seq _ x (decodes-barred _ (go (eqb (modField m) 3) (eqb (regField m) 0) (λ f g. h (omega (arith, eqb-true (modField m) 3 f, eqb-true (regField m) 0 g)))))
-    where
-      go : (b c : Bool) → (b ≡ true → c ≡ true → ⊥) → (b && c) ≡ false
-      go true true f = absurd (f refl refl)
-      go true false f = refl
-      go false true f = refl
-      go false false f = refl
+  no-given h = decodes-seq _ x (decodes-barred _ (not-both (eqb (modField m) 3) (eqb (regField m) 0) (λ f g. h (omega (arith, eqb-true (modField m) 3 f, eqb-true (regField m) 0 g)))))

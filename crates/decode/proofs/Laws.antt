@@ -5,18 +5,19 @@ use mathlib.Core.Bool.{Bool, true, false, _&&_}
 use mathlib.Core.List.{List, [], _∷_, _++_}
 use mathlib.Core.Option.{Option, none, some}
 use native.Mathlib.Omega.{arith}
-use lib.Dec.{leb, ltb}
-use borrow.Author.Tests.{ne-eqb, leb-true, lt-leb, le-ltb}
+use lib.Dec.{leb}
+use borrow.Author.Tests.{ne-eqb, leb-true, lt-leb}
 use Rattle.sheet.specs.declared.Prefixes.{Prefixes}
 use Rattle.sheet.specs.Reading.{no, byte}
-use Rattle.sheet.specs.Encoding.{Prefix, prefixOf, withPrefix, Row, covers, lookUp}
+use Rattle.sheet.specs.Encoding.{Prefix, prefixOf, withPrefix, Row, lookUp}
 use Rattle.sheet.specs.FirstByte.{bytes00, bytes40, bytes80, bytesC0, firstBytes, afterPrefix, prefixed}
 use Rattle.sheet.specs.Contract.{Reads}
+use Rattle.sheet.proofs.TableLaws.{below}
 use Rattle.answers.specs.declared.Decoded.{Decoded}
 use Rattle.answers.specs.declared.Decoded.the-variants.{Unknown}
 use Rattle.answers.specs.Answer.{Decodes, Names}
 use Rattle.answers.proofs.DecodesLaws.{decodes-no, decodes-seq, decodes-as}
-use Rattle.answers.proofs.CodeLaws.{Left}
+use Rattle.answers.proofs.CodeLaws.{both, above-row, Left}
 use Rattle.decode.specs.declared.Found.{Found}
 use Rattle.decode.specs.Found.{found}
 use Rattle.decode.specs.declared.Opening.{Opening}
@@ -24,26 +25,10 @@ use Rattle.decode.specs.Opening.{Opens}
 
 -- ---- the table by its parts
 
--- every row of a list ends at n or below; every row starts at n or above
-abbrev below : ℕ → List Row → Bool
-below n [] = true
-below n (r ∷ t) = leb (r .from + r .many) n && below n t
-
+-- every row of a list starts at n or above
 abbrev above : ℕ → List Row → Bool
 above n [] = true
 above n (r ∷ t) = leb n (r .from) && above n t
-
-both : (a b : Bool) → (a && b) ≡ true → (a ≡ true) × (b ≡ true)
-both true b e = (refl, e)
-both false true e = (e, refl)
-both false false e = (e, e)
-
-past : (r : Row) (b : ℕ) → r .from + r .many ≤ b → covers r b ≡ false
-past r b h = go (leb (r .from) b)
-  where
-    go : (c : Bool) → (c && ltb b (r .from + r .many)) ≡ false
-    go true = le-ltb b (r .from + r .many) h
-    go false = refl
 
 -- a code past the rows of the first list is looked up in the second
 in-second : (s t : List Row) (n b : ℕ) → below n s ≡ true → n ≤ b → lookUp (s ++ t) b ≡ lookUp t b
@@ -52,7 +37,7 @@ in-second [] t n b e h = refl
 in-second (r ∷ s) t n b e h =
     let (x, y) = both (leb (r .from + r .many) n) (below n s) e in
     let z = leb-true (r .from + r .many) n x in
-    rw (past r b (omega arith)) (in-second s t n b y h)
+    rw (above-row r b (omega arith)) (in-second s t n b y h)
 
 -- a code before the rows of the second is looked up in the first
 nowhere : (t : List Row) (n b : ℕ) → above n t ≡ true → b < n → lookUp t b ≡ no 3

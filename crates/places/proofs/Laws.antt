@@ -28,6 +28,7 @@ use Rattle.sheet.proofs.ReadingLaws.{reads-seq, reads-got, read-true, read-fals
 use Rattle.answers.specs.declared.Decoded.{Decoded}
 use Rattle.answers.specs.declared.Decoded.the-variants.{Known}
 use Rattle.answers.specs.Answer.{Takes}
+use Rattle.answers.proofs.CodeLaws.{not-both}
 use Rattle.places.specs.Operands.{Operands}
 
 -- the code's table of shifts has something at the number that the definition leaves out
@@ -74,16 +75,9 @@ module _ {src : ℕ → ℕ} {i : ℕ} where
     pub address-formed : (v j : ℕ) (a : Address) → (m / 64 * 8 + m % 8 ≡ 6 → ⊥) → Takes ℕ (displacement (m / 64)) src i v j 2 → a ≡ formed p (m % 8) v
         → Takes Address (address p (modField m) (memField m)) src i a j 2
     unfolding address withDisplacement
-    address-formed v j a e x h = record { reads = read-false _ _ t (rw h (reads-seq _ (x .reads) reads-got)); most = x .most }
-      where
-        go : (b c : Bool) → (b ≡ true → c ≡ true → ⊥) → (b && c) ≡ false
-        go true true f = absurd (f refl refl)
-        go true false f = refl
-        go false true f = refl
-        go false false f = refl
-
-        t : (eqb (modField m) 0 && eqb (memField m) 6) ≡ false
-        t = go (eqb (modField m) 0) (eqb (memField m) 6) (λ k l. e (omega (arith, eqb-true, k, l)))
+    address-formed v j a e x h =
+        let t : (eqb (modField m) 0 && eqb (memField m) 6) ≡ false = not-both (eqb (modField m) 0) (eqb (memField m) 6) (λ k l. e (omega (arith, eqb-true (modField m) 0 k, eqb-true (memField m) 6 l))) in
+        record { reads = read-false _ _ t (rw h (reads-seq _ (x .reads) reads-got)); most = x .most }
 
     pub place-register : m / 64 ≡ 3 → Takes Place (place p m) src i (Register (m % 8)) i 2
     unfolding place
