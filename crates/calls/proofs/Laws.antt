@@ -4,19 +4,18 @@ use mathlib.Core.Bool.{Bool, true, false, not, _&&_}
 use mathlib.Core.List.{List}
 use mathlib.Core.Path.{_≡_, refl, sym, _∙_}
 use native.Mathlib.Omega.{arith}
-use lib.Dec.{leb}
-use lib.ListN.{length, getD, set}
+use lib.ListN.{length, getD}
 use borrow.Author.Tests.{le-leb, lt-leb}
 use Rattle.sheet.specs.declared.Bus.{Bus}
 use Rattle.sheet.specs.declared.State.{State}
 use Rattle.sheet.specs.Width.{pick}
 use Rattle.sheet.specs.Psw.{IE, flagOf, fixedOf}
 use Rattle.sheet.specs.Registers.{PSW}
-use Rattle.sheet.specs.World.{World, world, pswOf, withFile}
-use Rattle.sheet.specs.Handler.{run, nothing, kept, runBy}
+use Rattle.sheet.specs.World.{World, world, pswOf}
+use Rattle.sheet.specs.Handler.{run, nothing}
 use Rattle.sheet.specs.Traps.{trap}
-use Rattle.sheet.specs.Step.{fits, sound, refusal, interrupting, interruptBy, interrupt, interruptReport}
-use Rattle.sheet.specs.Contract.{exec, Ends, OnMemory, report, reportOf}
+use Rattle.sheet.specs.Step.{fits, sound, interrupting, interruptBy, interrupt, interruptReport}
+use Rattle.sheet.specs.Contract.{exec, OnMemory, report, reportOf}
 use Rattle.sheet.proofs.Rules.{seq-last, ends-halted}
 use Rattle.calls.specs.Calls.{checkNumber, placesGood, Accepts, Interrupts}
 

@@ -21,9 +21,9 @@ pub fn adj4(sub: bool, al: u16, psw: u16) -> Flagged
 fn unpacked(sub: bool, low: bool, aw: u16) -> u16
     ensures { λ r. ⌜ r ≡ unpacked sub low aw ⌝ }
 {
-    let high = decimal::moved(sub, aw / 256, word::digit(low));
-    let digits = decimal::moved(sub, aw % 256, word::only(low, 6));
-    high * 256 + digits % 16
+    let high = decimal::plain(sub, aw / 256, word::digit(low), false);
+    let digits = decimal::plain(sub, aw % 256, word::only(low, 6), false);
+    high.value * 256 + digits.value % 16
 }
 
 // ADJBA, and ADJBS where `sub`, of AW.

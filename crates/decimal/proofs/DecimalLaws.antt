@@ -6,9 +6,9 @@ use native.Mathlib.Omega.{arith}
 use borrow.Author.Tests.{ltb-true, ltb-false, leb-true, leb-false, lt-ltb, le-ltb, lt-leb}
 use lib.Dec.{ltb, leb, lit≤}
 use Rattle.sheet.specs.declared.Digits.{Digits}
-use Rattle.sheet.specs.Width.{pick}
+use Rattle.sheet.specs.Width.{wrapOf, pick}
 use Rattle.sheet.specs.Psw.{bit}
-use Rattle.sheet.specs.Decimal.{adjusted, comesOut, digits, moved, plain}
+use Rattle.sheet.specs.Decimal.{adjusted, digits, moved, plain}
 
 -- a byte with AC and CY
 abbrev pub byteOf : ℕ → Bool → Bool → Digits
@@ -29,8 +29,8 @@ or-true false = refl
 -- ---- an adjustment, by the tests of its two steps
 
 adjusted-by : (sub : Bool) (x : ℕ) (ac cy low high : Bool) → (ltb 9 (x % 16) || ac) ≡ low
-    → (ltb 0x9f (moved sub x (pick low 6 0)) || (cy || comesOut sub x (pick low 6 0))) ≡ high
-    → adjusted sub x ac cy ≡ byteOf (moved sub (moved sub x (pick low 6 0)) (pick high 0x60 0)) low high
+    → (ltb 0x9f (moved sub x (pick low 6 0) .value) || (cy || moved sub x (pick low 6 0) .cy)) ≡ high
+    → adjusted sub x ac cy ≡ byteOf (moved sub (moved sub x (pick low 6 0) .value) (pick high 0x60 0) .value) low high
 unfolding adjusted
 adjusted-by sub x ac cy low high e f = rw (e, f)
 
@@ -40,43 +40,43 @@ made {ac = ac} {cy = cy} e = ap (λ (z : ℕ). byteOf z ac cy) e
 -- ---- subtraction: 6 and 60h are taken away where a column borrowed
 
 borrow-adjusted : (x r0 : ℕ) (p q : Bool) → r0 ≤ 9 → x ≤ 9 → adjusted true (x * 16 + r0 + 6 * bit p + 96 * bit q) p q ≡ byteOf (x * 16 + r0) p q
-unfolding moved comesOut
+unfolding plain wrapOf
 borrow-adjusted x r0 false false h k =
     let v = x * 16 + r0 + 6 * 0 + 96 * 0 in
     adjusted-by true v false false false false (rw (le-ltb 9 (v % 16) (omega arith)))
-    (rw (le-ltb 159 ((256 + v - 0) % 256) (omega arith), le-ltb v 0 (omega arith)))
+    (rw (le-ltb 159 ((131072 + v - 0) % 256) (omega arith), le-ltb v 0 (omega arith)))
     ∙ made (omega arith)
 borrow-adjusted x r0 true false h k =
     let v = x * 16 + r0 + 6 * 1 + 96 * 0 in
     adjusted-by true v true false true false (or-true (ltb 9 (v % 16)))
-    (rw (le-ltb 159 ((256 + v - 6) % 256) (omega arith), le-ltb v 6 (omega arith)))
+    (rw (le-ltb 159 ((131072 + v - 6) % 256) (omega arith), le-ltb v 6 (omega arith)))
     ∙ made (omega arith)
 borrow-adjusted x r0 false true h k =
     let v = x * 16 + r0 + 6 * 0 + 96 * 1 in
-    adjusted-by true v false true false true (rw (le-ltb 9 (v % 16) (omega arith))) (or-true (ltb 159 ((256 + v - 0) % 256)))
+    adjusted-by true v false true false true (rw (le-ltb 9 (v % 16) (omega arith))) (or-true (ltb 159 ((131072 + v - 0) % 256)))
     ∙ made (omega arith)
 borrow-adjusted x r0 true true h k =
     let v = x * 16 + r0 + 6 * 1 + 96 * 1 in
-    adjusted-by true v true true true true (or-true (ltb 9 (v % 16))) (or-true (ltb 159 ((256 + v - 6) % 256)))
+    adjusted-by true v true true true true (or-true (ltb 9 (v % 16))) (or-true (ltb 159 ((131072 + v - 6) % 256)))
     ∙ made (omega arith)
 
 -- ---- addition: 6 and 60h are added where a column exceeds 9
 
 -- the byte t, k later added, exceeds 9Fh, now or before it was cut to a byte
-over : (t k : ℕ) → k ≤ 6 → 160 ≤ t + k → t < 512 → (ltb 159 ((t % 256 + k) % 256) || (leb 256 t || leb 256 (t % 256 + k))) ≡ true
-over t k h l g = go (leb 256 t) (leb 256 (t % 256 + k)) refl refl
+over : (t k : ℕ) → k ≤ 6 → 160 ≤ t + k → t < 512 → (ltb 159 ((t % 256 + k + 0) % 256) || (leb 256 t || leb 256 (t % 256 + k + 0))) ≡ true
+over t k h l g = go (leb 256 t) (leb 256 (t % 256 + k + 0)) refl refl
   where
-    go : (a b : Bool) → leb 256 t ≡ a → leb 256 (t % 256 + k) ≡ b → (ltb 159 ((t % 256 + k) % 256) || (a || b)) ≡ true
-    go true b e f = or-true (ltb 159 ((t % 256 + k) % 256))
-    go false true e f = or-true (ltb 159 ((t % 256 + k) % 256))
+    go : (a b : Bool) → leb 256 t ≡ a → leb 256 (t % 256 + k + 0) ≡ b → (ltb 159 ((t % 256 + k + 0) % 256) || (a || b)) ≡ true
+    go true b e f = or-true (ltb 159 ((t % 256 + k + 0) % 256))
+    go false true e f = or-true (ltb 159 ((t % 256 + k + 0) % 256))
     go false false e f =
         let x = leb-false 256 t e in
-        let y = leb-false 256 (t % 256 + k) f in
-        rw (lt-ltb 159 ((t % 256 + k) % 256) (omega arith))
+        let y = leb-false 256 (t % 256 + k + 0) f in
+        rw (lt-ltb 159 ((t % 256 + k + 0) % 256) (omega arith))
 
-under : (t k : ℕ) → t + k ≤ 153 → (ltb 159 ((t % 256 + k) % 256) || (leb 256 t || leb 256 (t % 256 + k))) ≡ false
+under : (t k : ℕ) → t + k ≤ 153 → (ltb 159 ((t % 256 + k + 0) % 256) || (leb 256 t || leb 256 (t % 256 + k + 0))) ≡ false
 under t k h =
-    rw (le-ltb 159 ((t % 256 + k) % 256) (omega arith), lt-leb 256 t (omega arith), lt-leb 256 (t % 256 + k) (omega arith))
+    rw (le-ltb 159 ((t % 256 + k + 0) % 256) (omega arith), lt-leb 256 t (omega arith), lt-leb 256 (t % 256 + k + 0) (omega arith))
 
 -- a low column x of 10 to 19
 exceeds : (s x : ℕ) → 10 ≤ x → x ≤ 19 → (ltb 9 ((s * 16 + x) % 256 % 16) || leb 16 x) ≡ true
@@ -88,7 +88,7 @@ exceeds s x h l = go (leb 16 x) refl
 
 carry-adjusted : (s r1 r0 : ℕ) (p q : Bool) → r1 ≤ 9 → r0 ≤ 9 → s + bit p ≡ r1 + 10 * bit q
     → adjusted false ((s * 16 + (r0 + 10 * bit p)) % 256) (leb 16 (r0 + 10 * bit p)) (leb 256 (s * 16 + (r0 + 10 * bit p))) ≡ byteOf (r1 * 16 + r0) p q
-unfolding moved comesOut
+unfolding plain wrapOf
 carry-adjusted s r1 r0 false false k1 k0 e =
     let t = s * 16 + (r0 + 0) in
     adjusted-by false (t % 256) (leb 16 (r0 + 0)) (leb 256 t) false false (rw (le-ltb 9 (t % 256 % 16) (omega arith), lt-leb 16 (r0 + 0) (omega arith))) (under t 0 (omega arith))
@@ -114,7 +114,7 @@ low-digit x y h = omega arith
 module _ (d1 d0 e1 e0 r1 r0 : ℕ) (c : Bool) (h1 : d1 ≤ 9) (h0 : d0 ≤ 9) (g1 : e1 ≤ 9) (g0 : e0 ≤ 9) (k1 : r1 ≤ 9) (k0 : r0 ≤ 9) where
   borrow-plain : (p q : Bool) → d0 + 10 * bit p ≡ e0 + bit c + r0 → d1 + 10 * bit q ≡ e1 + bit p + r1
       → plain true (d1 * 16 + d0) (e1 * 16 + e0) c ≡ byteOf (r1 * 16 + r0 + 6 * bit p + 96 * bit q) p q
-  unfolding plain
+  unfolding plain wrapOf
   borrow-plain false false low high =
       rw (low-digit d1 d0 (omega arith), low-digit e1 e0 (omega arith), le-ltb d0 (e0 + bit c) (omega arith), le-ltb (d1 * 16 + d0) (e1 * 16 + e0 + bit c) (omega arith))
       (made (omega arith))
@@ -136,7 +136,7 @@ module _ (d1 d0 e1 e0 r1 r0 : ℕ) (c : Bool) (h1 : d1 ≤ 9) (h0 : d0 ≤ 9) (g
   carry-plain : (p : Bool) → d0 + e0 + bit c ≡ r0 + 10 * bit p
       → plain false (d1 * 16 + d0) (e1 * 16 + e0) c
       ≡ byteOf (((d1 + e1) * 16 + (r0 + 10 * bit p)) % 256) (leb 16 (r0 + 10 * bit p)) (leb 256 ((d1 + e1) * 16 + (r0 + 10 * bit p)))
-  unfolding plain
+  unfolding plain wrapOf
   carry-plain p low =
       let sum : d1 * 16 + d0 + (e1 * 16 + e0) + bit c ≡ (d1 + e1) * 16 + (r0 + 10 * bit p) = omega arith in
       rw (low-digit d1 d0 (omega arith), low-digit e1 e0 (omega arith), low, sum)

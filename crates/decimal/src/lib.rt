@@ -1,59 +1,15 @@
 // Packed decimal: a byte adjusted, one byte of ADD4S, SUB4S and CMP4S, the digits of ROL4 and ROR4. No function here has a precondition.
 ghost use mathlib.Core.Path.{_≡_};
-ghost use Prim.Native.Nat.{_+_, _-_, _*_, _/_, _%_, _≤_};
+ghost use Prim.Native.Nat.{_+_, _*_, _/_, _%_, _≤_};
 ghost use Rattle.sheet.specs.Width.{add16};
-ghost use Rattle.sheet.specs.Decimal.{adjusted, comesOut, digits, moved, plain};
+ghost use Rattle.sheet.specs.Decimal.{adjusted, digits, plain};
 use sheet::Digits;
 use word::digit;
 use word::only;
 
-// a - b, and 0 where b is the larger.
-fn less(a: u32, b: u32) -> u32
-    ensures { λ r. ⌜ r ≡ a - b ⌝ }
-{
-    if b <= a { a - b } else { 0 }
-}
-
-// x with k added or, where `sub`, taken away, at a byte. The bound serves the sums that it goes into.
-pub fn moved(sub: bool, x: u16, k: u16) -> u16
-    ensures { λ r. ⌜ (r ≡ moved sub x k) × (r ≤ 255) ⌝ }
-{
-    if sub {
-        (less(256 + x as u32, k as u32) % 256) as u16
-    } else {
-        ((x as u32 + k as u32) % 256) as u16
-    }
-}
-
-// The carry or the borrow of that.
-fn comes_out(sub: bool, x: u16, k: u16) -> bool
-    ensures { λ r. ⌜ r ≡ comesOut sub x k ⌝ }
-{
-    if sub {
-        x < k
-    } else {
-        256 <= x as u32 + k as u32
-    }
-}
-
-// A byte after the two steps of an adjustment.
-pub fn adjusted(sub: bool, x: u16, ac: bool, cy: bool) -> Digits
-    ensures { λ r. ⌜ r ≡ adjusted sub x ac cy ⌝ }
-{
-    let low = (9 < x % 16) | ac;
-    let k = only(low, 6);
-    let y = moved(sub, x, k);
-    let high = (0x9f < y) | (cy | comes_out(sub, x, k));
-    Digits {
-        value: moved(sub, y, only(high, 0x60)),
-        ac: low,
-        cy: high,
-    }
-}
-
-// a plus or minus b and the carry so far, with the half carry and the carry of that.
-fn plain(sub: bool, a: u16, b: u16, c: bool) -> Digits
-    ensures { λ r. ⌜ r ≡ plain sub a b c ⌝ }
+// a plus b and a carry or, where `sub`, minus b and a borrow, with AC and CY of that. The bound serves the sums that the value goes into.
+pub fn plain(sub: bool, a: u16, b: u16, c: bool) -> Digits
+    ensures { λ r. ⌜ (r ≡ plain sub a b c) × (r .value ≤ 255) ⌝ }
 {
     let d = digit(c) as u32;
     let low = a as u32 % 16;
@@ -61,7 +17,7 @@ fn plain(sub: bool, a: u16, b: u16, c: bool) -> Digits
     if sub {
         let taken = b as u32 + d;
         Digits {
-            value: (less(512 + a as u32, taken) % 256) as u16,
+            value: ((131072 + a as u32 - taken) % 256) as u16,
             ac: low < more,
             cy: (a as u32) < taken,
         }
@@ -72,6 +28,21 @@ fn plain(sub: bool, a: u16, b: u16, c: bool) -> Digits
             ac: 16 <= low + b as u32 % 16 + d,
             cy: 256 <= sum,
         }
+    }
+}
+
+// A byte after the two steps of an adjustment.
+pub fn adjusted(sub: bool, x: u16, ac: bool, cy: bool) -> Digits
+    ensures { λ r. ⌜ r ≡ adjusted sub x ac cy ⌝ }
+{
+    let low = (9 < x % 16) | ac;
+    let y = plain(sub, x, only(low, 6), false);
+    let high = (0x9f < y.value) | (cy | y.cy);
+    let z = plain(sub, y.value, only(high, 0x60), false);
+    Digits {
+        value: z.value,
+        ac: low,
+        cy: high,
     }
 }
 

@@ -1,10 +1,9 @@
 -- What each instruction comes to, from what its parts come to.
-use Prim.Native.Nat.{ℕ, _+_, _≤_, zero-le}
+use Prim.Native.Nat.{ℕ, zero-le}
 use mathlib.Core.Bool.{Bool}
 use mathlib.Core.List.{List}
-use mathlib.Core.Path.{_≡_, refl}
+use mathlib.Core.Path.{_≡_}
 use native.Mathlib.Nat.{add-le-add}
-use native.Mathlib.Omega.{arith}
 use lib.ListN.{getD}
 use Rattle.sheet.specs.declared.Bus.{Bus}
 use Rattle.sheet.specs.declared.Progress.{Progress}
@@ -12,12 +11,11 @@ use Rattle.sheet.specs.declared.Primitive.{Primitive}
 use Rattle.sheet.specs.declared.Primitive.the-variants.{Inm, Outm}
 use Rattle.sheet.specs.declared.Repeat.{Repeat}
 use Rattle.sheet.specs.Registers.{CW, DW, IX, IY}
-use Rattle.sheet.specs.World.{world, stateOf}
+use Rattle.sheet.specs.World.{stateOf}
 use Rattle.sheet.specs.Handler.{nothing, _⊕_}
-use Rattle.sheet.specs.Act.{pure}
 use Rattle.sheet.specs.Block.{sourceElement, setTarget, stepIndex, primitive, element, block}
-use Rattle.sheet.specs.Contract.{Ends, Stops, OnFile, OnMemory}
-use Rattle.sheet.proofs.Rules.{seq, seq-free, seq-last, seq-stops, seq-then-stops, ends-pure, seq-registers, ends-registers}
+use Rattle.sheet.specs.Contract.{OnFile, OnMemory}
+use Rattle.sheet.proofs.Rules.{seq, seq-last, seq-stops, seq-then-stops, ends-pure, seq-registers, ends-registers}
 use Rattle.ports.specs.Accesses.{Gives, Takes, OnPorts}
 use Rattle.ports.proofs.Told.{ports-end, ports-stop}
 use Rattle.elements.specs.declared.Due.{Due}

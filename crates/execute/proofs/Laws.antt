@@ -1,6 +1,6 @@
 -- What each group comes to as an operation.
 use Prim.Native.Nat.{ℕ, _≤_, zero-le}
-use mathlib.Core.Bool.{Bool, true, false}
+use mathlib.Core.Bool.{Bool, false}
 use mathlib.Core.List.{List}
 use mathlib.Core.Path.{_≡_, refl}
 use native.Mathlib.Nat.{le-trans}
@@ -29,7 +29,7 @@ use Rattle.sheet.specs.declared.Io.{Io}
 use Rattle.sheet.specs.declared.Control.{Control}
 use Rattle.sheet.specs.declared.Instr.{Instr}
 use Rattle.sheet.specs.declared.Instr.the-variants.{Transfers, Calculates, Multiplies, Converts, Shifts, Bits, Decimals, Fields, Stacks, Branches, Tests, Interrupts, Blocks, Ports, Controls}
-use Rattle.sheet.specs.World.{world, stateOf}
+use Rattle.sheet.specs.World.{stateOf}
 use Rattle.sheet.specs.Act.{Act}
 use Rattle.sheet.specs.Handler.{nothing}
 use Rattle.sheet.specs.Transfer.{transfer}

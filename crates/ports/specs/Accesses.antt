@@ -7,7 +7,7 @@ use lib.ListN.{length}
 use Rattle.sheet.specs.declared.Bus.{Bus}
 use Rattle.sheet.specs.declared.Progress.{Progress}
 use Rattle.sheet.specs.Log.{writeLog}
-use Rattle.sheet.specs.World.{World, world, stateOf}
+use Rattle.sheet.specs.World.{world, stateOf}
 use Rattle.sheet.specs.Act.{Act, inp, out}
 use Rattle.sheet.specs.Handler.{nothing}
 use Rattle.sheet.specs.Contract.{Ends, Stops}

@@ -7,7 +7,7 @@ use native.Mathlib.Omega.{arith}
 use lib.ListN.{getD, set}
 use borrow.Author.Tests.{lt-ltb, le-ltb}
 use Rattle.sheet.specs.Registers.{PSW, fileOf, written, segment, readReg, regIndex, regWord}
-use Rattle.sheet.specs.Act.{registers, _≔_}
+use Rattle.sheet.specs.Act.{_≔_}
 use Rattle.sheet.specs.Operand.{setReg}
 use Rattle.sheet.specs.Contract.{OnFile}
 use Rattle.sheet.proofs.Lifted.{file-seq, file-registers, file-set}

@@ -1,6 +1,6 @@
 -- What every tree leaves as it found it: the lent buffers' lengths, ROM, the tape, and a sound state.
 use Prim.Native.Nat.{ℕ, suc, _+_, _/_, _%_, _≤_}
-use mathlib.Core.Path.{_≡_, refl, sym, _∙_}
+use mathlib.Core.Path.{_≡_, refl, _∙_}
 use mathlib.Core.Bool.{Bool, true, false}
 use mathlib.Core.List.{List}
 use native.Mathlib.Nat.{add-zero}
@@ -15,7 +15,7 @@ use Rattle.sheet.specs.Psw.{Flag, Effect, Choice, fixedOf, flagOf, settl
 use Rattle.sheet.specs.Registers.{PSW, fileOf, written}
 use Rattle.sheet.specs.Memory.{physical, next, readMem, writeMem}
 use Rattle.sheet.specs.Log.{rule, keyOf, recordBytes, writeLog}
-use Rattle.sheet.specs.World.{World, world, withState, withRam, pswOf, withFile, withPsw, withHalted, withCount, recorded}
+use Rattle.sheet.specs.World.{World, world, withState, withRam, pswOf, withFile, withPsw, withHalted, recorded}
 use Rattle.sheet.specs.Act.{Act, pure, refuse, get, put, ask, copy, flags, load, store, input, output, halt}
 use Rattle.sheet.specs.Handler.{Access, short, through, recording, taped, inputs, outputs, Event, reads, writes, takes, gives, asks, copies, changes, Outcome, refused, done, then, ported, copied, runBy}
 use Rattle.sheet.proofs.PswLaws.{fixed-settled}

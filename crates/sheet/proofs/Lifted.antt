@@ -3,7 +3,7 @@ use Prim.Native.Nat.{ℕ, _+_, _≤_}
 use mathlib.Core.Path.{_≡_}
 use mathlib.Core.Bool.{Bool, true, false}
 use mathlib.Core.List.{List}
-use native.Mathlib.Nat.{add-le-add, add-zero}
+use native.Mathlib.Nat.{add-le-add}
 use native.Mathlib.Omega.{arith}
 use lib.Dec.{lit≤}
 use lib.ListN.{set}
@@ -12,7 +12,6 @@ use Rattle.sheet.specs.Width.{pick}
 use Rattle.sheet.specs.Psw.{Flag, Effect, keeps, flagOf, settled}
 use Rattle.sheet.specs.Registers.{PSW, File, fileOf, written}
 use Rattle.sheet.specs.Memory.{readMem, writeMem, busCycles}
-use Rattle.sheet.specs.World.{pswOf}
 use Rattle.sheet.specs.Act.{Act, pure, flags, _>>=_, registers, _≔_, flag, psw, peek, poke}
 use Rattle.sheet.specs.Handler.{nothing, _⊕_, busOf, copied}
 use Rattle.sheet.specs.Contract.{OnFile, OnMemory}

@@ -1,9 +1,8 @@
 -- What comes of a tree rests only on the bytes that it reads, and RAM keeps each byte that it does not write.
 use Prim.Native.Nat.{ℕ, suc, _+_, _-_, _/_, _%_, _≤_, _<_}
-use mathlib.Core.Path.{_≡_, refl, sym, ap, subst, _∙_}
+use mathlib.Core.Path.{_≡_, refl, sym, subst, _∙_}
 use mathlib.Core.Bool.{Bool, true, false}
-use mathlib.Core.List.{List, [], _∷_, _++_}
-use mathlib.Core.Logic.{_≢_}
+use mathlib.Core.List.{List, _++_}
 use native.Mathlib.Decide.{ℕ-discrete}
 use native.Mathlib.Omega.{arith}
 use lib.ListN.{length, getD, set, take, drop, length-set, List·getD-append}
@@ -12,7 +11,7 @@ use lib.Dec.{ltb, leb}
 use borrow.Author.Tests.{ltb-true, ltb-false, leb-true}
 use Rattle.sheet.specs.declared.State.{State}
 use Rattle.sheet.specs.Width.{pick, bytesOf}
-use Rattle.sheet.specs.Psw.{Flag, Effect, Choice, flagOf, settled}
+use Rattle.sheet.specs.Psw.{Choice, flagOf, settled}
 use Rattle.sheet.specs.Registers.{fileOf, written}
 use Rattle.sheet.specs.Memory.{physical, next, byteAt, readMem, writeMem}
 use Rattle.sheet.specs.Log.{rule, keyOf, recordBytes, writeLog}

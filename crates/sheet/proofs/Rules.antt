@@ -1,9 +1,9 @@
 -- How a tree goes on: one rule for each node. The law of an instruction is put together from these.
-use Prim.Native.Nat.{ℕ, _+_}
+use Prim.Native.Nat.{ℕ}
 use native.Mathlib.Nat.{add-assoc, zero-add, add-zero}
 use mathlib.Core.Path.{_≡_, refl, ap, sym, _∙_}
 use mathlib.Core.Bool.{Bool, true, false}
-use mathlib.Core.List.{List, [], _∷_}
+use mathlib.Core.List.{List}
 use Rattle.sheet.specs.declared.Bus.{Bus}
 use Rattle.sheet.specs.Width.{pick}
 use Rattle.sheet.specs.Psw.{Flag, Effect, keeps, flagOf, settled}

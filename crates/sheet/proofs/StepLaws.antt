@@ -1,8 +1,8 @@
 -- What an accepted call says of the world that it began in, and what it leaves.
-use Prim.Native.Nat.{ℕ, zero, suc, _+_, _≤_, min}
-use mathlib.Core.Path.{_≡_, refl, sym, _∙_}
+use Prim.Native.Nat.{ℕ, _+_}
+use mathlib.Core.Path.{_≡_, refl}
 use mathlib.Core.Bool.{Bool, true, false, not, _&&_}
-use mathlib.Core.List.{List, []}
+use mathlib.Core.List.{List}
 use native.Mathlib.Nat.{min-le-right}
 use native.Mathlib.Omega.{arith}
 use lib.ListN.{length}
@@ -17,7 +17,7 @@ use Rattle.sheet.specs.Handler.{Event, Outcome, refused, done, runBy}
 use Rattle.sheet.specs.Reading.{Read, known, unknown, scan}
 use Rattle.sheet.specs.FirstByte.{instruction}
 use Rattle.sheet.specs.Step.{fits, sound, refusal, source, stepping, counted, decoded, awake, stepBy, interrupting, interruptBy}
-use Rattle.sheet.proofs.Lent.{Leaves, leaves, Lent, Sound, Good, stays-good}
+use Rattle.sheet.proofs.Lent.{Leaves, leaves, Sound, Good, stays-good}
 
 -- an outcome that is refused is not done
 no-done : {n : ℕ} {s t : List Event} {v : World} → _≡_ {A = Outcome Unit} (refused n s) (done tt v t) → ⊥

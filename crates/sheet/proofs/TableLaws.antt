@@ -1,14 +1,12 @@
 -- What a table of codes says of one code: the row that covers it, where those before it lie below.
 use Prim.Native.Nat.{ℕ, _+_, _-_, _≤_, _<_}
-use mathlib.Core.Path.{_≡_, refl, _∙_}
+use mathlib.Core.Path.{_≡_, refl}
 use mathlib.Core.Bool.{Bool, true, false, _&&_}
 use mathlib.Core.List.{List, [], _∷_, _++_}
 use native.Mathlib.Omega.{arith}
 use lib.Dec.{leb, ltb}
-use borrow.Author.Tests.{leb-true, le-leb, lt-leb, lt-ltb, le-ltb}
-use Rattle.sheet.specs.declared.Instr.{Instr}
+use borrow.Author.Tests.{leb-true, le-leb, lt-ltb, le-ltb}
 use Rattle.sheet.specs.Width.{pick}
-use Rattle.sheet.specs.Reading.{Reading}
 use Rattle.sheet.specs.Encoding.{Row, lookUp}
 
 -- every row of a list ends at n or before

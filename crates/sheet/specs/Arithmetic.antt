@@ -1,5 +1,5 @@
 -- Addition, subtraction, comparison, logic, increment, decrement, complement: results with their flag columns, and the instructions.
-use mathlib.Core.Bool.{Bool, true, false, not, _&&_, Bool·beq}
+use mathlib.Core.Bool.{Bool, false, not, _&&_, Bool·beq}
 use Prim.Native.Nat.{ℕ, _+_, _-_, _%_}
 use lib.Dec.{eqb, leb, ltb}
 use lib.Bits.{bitAnd, bitOr, bitXor}
@@ -25,22 +25,42 @@ unfoldable pub resulting : Bool → ℕ → (ac cy v : Effect) → Result
 resulting w x ac cy v =
     record { value = x; column = columns ac cy v (becomes (evenOf x)) (becomes (signOf w x)) (becomes (eqb x 0)) }
 
--- a + b + c: V where a and b have one sign and the sum has the other
+-- a + b + c at a width, and what it carries out of bit 3 and out of the top
+abbrev pub added : Bool → ℕ → ℕ → Bool → ℕ
+added w a b c = wrapOf w (a + b + bit c)
+
+abbrev pub halfCarry : ℕ → ℕ → Bool → Bool
+halfCarry a b c = leb 16 (a % 16 + b % 16 + bit c)
+
+abbrev pub carry : Bool → ℕ → ℕ → Bool → Bool
+carry w a b c = leb (modOf w) (a + b + bit c)
+
+-- a - b - c likewise, with its borrows. 131,072 is 0 at either width, so nothing falls below 0
+abbrev pub lessened : Bool → ℕ → ℕ → Bool → ℕ
+lessened w a b c = wrapOf w (131072 + a - (b + bit c))
+
+abbrev pub halfBorrow : ℕ → ℕ → Bool → Bool
+halfBorrow a b c = ltb (a % 16) (b % 16 + bit c)
+
+abbrev pub borrow : ℕ → ℕ → Bool → Bool
+borrow a b c = ltb a (b + bit c)
+
+-- V where a and b have one sign and their sum has the other
 unfoldable pub sum : Bool → ℕ → ℕ → Bool → Result
 sum w a b c =
-    let r : ℕ = wrapOf w (a + b + bit c) in
+    let r : ℕ = added w a b c in
     resulting w r
-    (becomes (leb 16 (a % 16 + b % 16 + bit c)))
-    (becomes (leb (modOf w) (a + b + bit c)))
+    (becomes (halfCarry a b c))
+    (becomes (carry w a b c))
     (becomes (Bool·beq (signOf w a) (signOf w b) && not (Bool·beq (signOf w r) (signOf w a))))
 
--- a - b - c: V where a and b differ in sign and the difference has b's. 131,072 is 0 at either width, so nothing falls below 0
+-- V where a and b differ in sign and the difference has b's
 unfoldable pub difference : Bool → ℕ → ℕ → Bool → Result
 difference w a b c =
-    let r : ℕ = wrapOf w (131072 + a - (b + bit c)) in
+    let r : ℕ = lessened w a b c in
     resulting w r
-    (becomes (ltb (a % 16) (b % 16 + bit c)))
-    (becomes (ltb a (b + bit c)))
+    (becomes (halfBorrow a b c))
+    (becomes (borrow a b c))
     (becomes (not (Bool·beq (signOf w a) (signOf w b)) && Bool·beq (signOf w r) (signOf w b)))
 
 -- a bitwise result x: AC U, CY 0, V 0

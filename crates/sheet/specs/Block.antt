@@ -1,5 +1,5 @@
 -- The block primitives, single and repeated.
-use Prim.Native.Nat.{ℕ, _%_}
+use Prim.Native.Nat.{ℕ}
 use mathlib.Core.Bool.{Bool, true, false, not, _||_}
 use lib.Dec.{eqb}
 use Rattle.sheet.specs.declared.Primitive.{Primitive}

@@ -1,5 +1,5 @@
 -- CVTBD, CVTDB, CVTBW, CVTWL.
-use mathlib.Core.Bool.{Bool, true, false}
+use mathlib.Core.Bool.{false}
 use Prim.Native.Nat.{ℕ, _+_, _*_, _/_, _%_}
 use lib.Dec.{ltb}
 use Rattle.sheet.specs.Width.{pick, extend}

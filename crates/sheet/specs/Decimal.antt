@@ -1,43 +1,35 @@
 -- Decimal digits: ADJ4A, ADJ4S, ADJBA, ADJBS, ADD4S, SUB4S, CMP4S, ROL4, ROR4.
 use mathlib.Core.Bool.{Bool, true, false, _&&_, _||_}
-use Prim.Native.Nat.{ℕ, _+_, _-_, _*_, _/_, _%_}
-use lib.Dec.{eqb, leb, ltb}
+use Prim.Native.Nat.{ℕ, _+_, _*_, _/_, _%_}
+use lib.Dec.{eqb, ltb}
 use Rattle.sheet.specs.declared.Place.{Place}
 use Rattle.sheet.specs.declared.Digits.{Digits}
 use Rattle.sheet.specs.declared.Chain.{Chain}
 use Rattle.sheet.specs.Width.{pick, add16}
 use Rattle.sheet.specs.Psw.{AC, CY, bit, unknown, becomes, columns}
-use Rattle.sheet.specs.Registers.{AW, IX, IY, DS1, AL, CL, AH, File, segment, readReg}
+use Rattle.sheet.specs.Registers.{AW, IX, IY, DS1, AL, CL, segment}
 use Rattle.sheet.specs.Act.{Act, pure, _>>=_, _>>_, registers, _≔_, flag, affect, peek, poke, loop}
 use Rattle.sheet.specs.Operand.{locate, fetch, deposit, regValue, setReg}
-use Rattle.sheet.specs.Arithmetic.{Result, resulting}
+use Rattle.sheet.specs.Arithmetic.{Result, resulting, added, halfCarry, carry, lessened, halfBorrow, borrow}
 
 -- ---- one byte
 
--- x with k added or, for a subtraction, taken away, and whether a carry or a borrow came out
-unfoldable pub moved : Bool → ℕ → ℕ → ℕ
-moved true x k = (256 + x - k) % 256
-moved false x k = (x + k) % 256
+-- a plus b and a carry or, for a subtraction, minus b and a borrow, with AC and CY of that
+unfoldable pub plain : Bool → ℕ → ℕ → Bool → Digits
+plain true a b c = record { value = lessened false a b c; ac = halfBorrow a b c; cy = borrow a b c }
+plain false a b c = record { value = added false a b c; ac = halfCarry a b c; cy = carry false a b c }
 
-unfoldable pub comesOut : Bool → ℕ → ℕ → Bool
-comesOut true x k = ltb x k
-comesOut false x k = leb 256 (x + k)
+-- the same without a carry so far: k goes to x or comes off it
+abbrev pub moved : Bool → ℕ → ℕ → Digits
+moved sub x k = plain sub x k false
 
 -- 6 where the low digit exceeds 9 or AC is 1, which sets AC; a carry out of it also sets CY. Then 60h where the byte exceeds 9Fh or CY is 1, which sets CY
 unfoldable pub adjusted : Bool → ℕ → Bool → Bool → Digits
 adjusted sub x ac cy =
     let low : Bool = ltb 9 (x % 16) || ac in
-    let k : ℕ = pick low 6 0 in
-    let y : ℕ = moved sub x k in
-    let high : Bool = ltb 0x9f y || (cy || comesOut sub x k) in
-    record { value = moved sub y (pick high 0x60 0); ac = low; cy = high }
-
--- a plus or minus b and the carry so far, with the half carry and the carry of that
-unfoldable pub plain : Bool → ℕ → ℕ → Bool → Digits
-plain true a b c =
-    record { value = (512 + a - (b + bit c)) % 256; ac = ltb (a % 16) (b % 16 + bit c); cy = ltb a (b + bit c) }
-plain false a b c =
-    record { value = (a + b + bit c) % 256; ac = leb 16 (a % 16 + b % 16 + bit c); cy = leb 256 (a + b + bit c) }
+    let y : Digits = moved sub x (pick low 6 0) in
+    let high : Bool = ltb 0x9f (y .value) || (cy || y .cy) in
+    record { value = moved sub (y .value) (pick high 0x60 0) .value; ac = low; cy = high }
 
 -- one byte of ADD4S or of SUB4S
 unfoldable pub digits : Bool → ℕ → ℕ → Bool → Digits
@@ -65,7 +57,7 @@ adj4 sub = do
 -- AH and AL once a digit is adjusted: no carry goes from AL to AH
 unfoldable pub unpacked : Bool → Bool → ℕ → ℕ
 unpacked sub low aw =
-    moved sub (aw / 256) (bit low) * 256 + moved sub (aw % 256) (pick low 6 0) % 16
+    moved sub (aw / 256) (bit low) .value * 256 + moved sub (aw % 256) (pick low 6 0) .value % 16
 
 unfoldable pub unpackedResult : Bool → ℕ → Bool → Result
 unpackedResult sub aw ac =

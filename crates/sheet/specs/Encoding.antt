@@ -1,10 +1,9 @@
 -- Instruction bytes: prefixes, the mod-reg-mem byte, and how a table of codes is read.
-use Prim.Native.Nat.{ℕ, zero, suc, _+_, _-_, _*_, _/_, _%_}
-use mathlib.Core.Bool.{Bool, true, false, _&&_}
-use mathlib.Core.List.{List, [], _∷_, _++_}
+use Prim.Native.Nat.{ℕ, _+_, _-_, _/_, _%_}
+use mathlib.Core.Bool.{Bool, _&&_}
+use mathlib.Core.List.{List, [], _∷_}
 use mathlib.Core.Option.{Option, none, some}
 use lib.Dec.{eqb, leb, ltb}
-use lib.ListN.{getD}
 use Rattle.sheet.specs.declared.Address.{Address}
 use Rattle.sheet.specs.declared.Address.the-variants.{Formed, Direct}
 use Rattle.sheet.specs.declared.Place.{Place}
@@ -15,10 +14,10 @@ use Rattle.sheet.specs.declared.Prefixes.{Prefixes}
 use Rattle.sheet.specs.declared.Repeat.{Repeat}
 use Rattle.sheet.specs.declared.Repeat.the-variants.{Once, WhileZ, WhileNotZ, WhileCy, WhileNotCy}
 use Rattle.sheet.specs.declared.Instr.{Instr}
-use Rattle.sheet.specs.Width.{pick, extend}
+use Rattle.sheet.specs.Width.{pick}
 use Rattle.sheet.specs.Registers.{inDs1, inPs, inSs, inDs0}
 use Rattle.sheet.specs.Operand.{formAt}
-use Rattle.sheet.specs.Reading.{Reading, got, need, no, _>>=_, _>>_, byte, word, signedByte, allow}
+use Rattle.sheet.specs.Reading.{Reading, got, no, _>>=_, _>>_, word, signedByte, allow}
 
 -- ---- prefixes
 

@@ -1,5 +1,5 @@
 -- The first bytes of instructions, in their order, and an instruction with its prefixes.
-use Prim.Native.Nat.{ℕ, zero, suc, _+_, _*_, _/_, _%_}
+use Prim.Native.Nat.{ℕ, zero, suc, _+_}
 use mathlib.Core.Bool.{Bool, true, false, not, _&&_}
 use mathlib.Core.List.{List, [], _∷_, _++_}
 use mathlib.Core.Option.{Option, none, some}
@@ -7,14 +7,13 @@ use lib.Dec.{eqb, ltb}
 use lib.ListN.{getD}
 use Rattle.sheet.specs.declared.Address.{Address}
 use Rattle.sheet.specs.declared.Place.{Place}
-use Rattle.sheet.specs.declared.Place.the-variants.{Register, Memory}
+use Rattle.sheet.specs.declared.Place.the-variants.{Register}
 use Rattle.sheet.specs.declared.Source.{Source}
 use Rattle.sheet.specs.declared.Source.the-variants.{Held, Immediate}
 use Rattle.sheet.specs.declared.Amount.the-variants.{InCl, Given}
 use Rattle.sheet.specs.declared.Transfer.the-variants.{Mov, LoadAcc, StoreAcc, ToSegment, FromSegment, LoadPointer, AhFromPsw, PswFromAh, Ldea, Trans, Xch}
 use Rattle.sheet.specs.declared.Operation.{Operation}
 use Rattle.sheet.specs.declared.Operation.the-variants.{Add, Or, Addc, Subc, And, Sub, Xor, Cmp}
-use Rattle.sheet.specs.declared.Unary.{Unary}
 use Rattle.sheet.specs.declared.Unary.the-variants.{Inc, Dec, Not, Neg}
 use Rattle.sheet.specs.declared.Arithmetic.the-variants as calculates
 use Rattle.sheet.specs.declared.Multiply.the-variants.{Mulu, Mul, MulByte, MulWord, Divu, Div}
@@ -26,7 +25,6 @@ use Rattle.sheet.specs.declared.Places.{Places}
 use Rattle.sheet.specs.declared.Places.the-variants.{One, Counted}
 use Rattle.sheet.specs.declared.Stack.the-variants.{Push, PushByte, PushWord, PushSegment, PushPsw, PushR, Pop, PopSegment, PopPsw, PopR, Prepare, Dispose}
 use Rattle.sheet.specs.declared.Branch.the-variants.{CallNear, CallTo, CallFar, CallFarAt, Ret, RetPop, RetFar, RetFarPop, BrNear, BrShort, BrTo, BrFar, BrFarAt}
-use Rattle.sheet.specs.declared.Conditional.{Conditional}
 use Rattle.sheet.specs.declared.Conditional.the-variants.{If, Dbnzne, Dbnze, Dbnz, Bcwz}
 use Rattle.sheet.specs.declared.Interrupt.the-variants.{Brk3, Brk, Brkv, Reti, Chkind}
 use Rattle.sheet.specs.declared.Primitive.{Primitive}
@@ -39,8 +37,8 @@ use Rattle.sheet.specs.declared.Instr.{Instr}
 use Rattle.sheet.specs.declared.Instr.the-variants.{Transfers, Calculates, Multiplies, Converts, Shifts, Stacks, Branches, Tests, Interrupts, Blocks, Ports, Controls}
 use Rattle.sheet.specs.Width.{pick}
 use Rattle.sheet.specs.Registers.{AW, inDs1, inPs, inSs, inDs0}
-use Rattle.sheet.specs.Reading.{Reading, got, need, no, _>>=_, _>>_, byte, word, immediate, signedByte, allow}
-use Rattle.sheet.specs.Encoding.{unprefixed, withPrefix, prefixOf, Prefix, segOr, modField, regField, direct, place, memory, Row, row, lookUp, W, toRegister}
+use Rattle.sheet.specs.Reading.{Reading, got, no, _>>=_, _>>_, byte, word, immediate, signedByte, allow}
+use Rattle.sheet.specs.Encoding.{unprefixed, withPrefix, prefixOf, Prefix, segOr, regField, direct, place, memory, Row, row, lookUp, W, toRegister}
 use Rattle.sheet.specs.SecondByte.{plainPlace, secondBytes}
 
 -- ---- what follows a first byte

@@ -10,7 +10,7 @@ use Rattle.sheet.specs.declared.Divided.{Divided}
 use Rattle.sheet.specs.declared.Divided.the-variants.{Quotient, Trap}
 use Rattle.sheet.specs.Width.{pick, modOf, halfOf, wrapOf, signedOf, bits32}
 use Rattle.sheet.specs.Psw.{unknown, becomes, Column, columns}
-use Rattle.sheet.specs.Registers.{AW, DW, AH, AL, File, readReg}
+use Rattle.sheet.specs.Registers.{AW, DW, File}
 use Rattle.sheet.specs.Act.{Act, pure, _>>=_, _>>_, registers, _≔_, affect}
 use Rattle.sheet.specs.Operand.{regValue, setReg, valueAt}
 use Rattle.sheet.specs.Traps.{trap}

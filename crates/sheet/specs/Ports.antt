@@ -1,6 +1,5 @@
 -- IN and OUT.
 use Prim.Native.Nat.{ℕ}
-use mathlib.Core.Bool.{Bool}
 use Rattle.sheet.specs.declared.Port.{Port}
 use Rattle.sheet.specs.declared.Port.the-variants.{InDw, Numbered}
 use Rattle.sheet.specs.declared.Io.{Io}

@@ -1,5 +1,5 @@
 -- PSW as flags and as 16 bits, and what an instruction does to it: a column of Table 8-4.
-use mathlib.Core.Bool.{Bool, true, false, _&&_}
+use mathlib.Core.Bool.{Bool, false, _&&_}
 use Prim.Native.Nat.{ℕ, _+_, _*_, _/_, _%_}
 use lib.Dec.{eqb}
 use mir.Val.{boolByte}

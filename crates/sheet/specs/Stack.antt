@@ -1,8 +1,6 @@
 -- PUSH, POP, PREPARE, DISPOSE.
 use Prim.Native.Nat.{ℕ, zero, suc, _%_}
 use mathlib.Core.Bool.{true}
-use Rattle.sheet.specs.declared.Spot.{Spot}
-use Rattle.sheet.specs.declared.Spot.the-variants.{InRegister, InMemory}
 use Rattle.sheet.specs.declared.Place.{Place}
 use Rattle.sheet.specs.declared.Place.the-variants.{Register, Memory}
 use Rattle.sheet.specs.declared.Stack.{Stack}

@@ -2,7 +2,7 @@
 use Prim.Native.Nat.{ℕ, _+_}
 use mathlib.Core.Bool.{Bool, true, false, not, _&&_}
 use mathlib.Core.List.{List, []}
-use lib.ListN.{length, getD, replicate, set}
+use lib.ListN.{length, replicate, set}
 use lib.Dec.{leb}
 use Rattle.sheet.specs.declared.State.{State}
 use Rattle.sheet.specs.declared.Instr.{Instr}

@@ -1,6 +1,6 @@
 -- The two widths of an operand: the sheet's bit W, true for a word and false for a byte. Each rule is one definition over it.
 use mathlib.Core.Bool.{Bool, true, false}
-use Prim.Native.Nat.{ℕ, suc, _+_, _-_, _*_, _%_}
+use Prim.Native.Nat.{ℕ, _+_, _-_, _*_, _%_}
 use lib.Dec.{eqb, leb, ltb}
 use lib.Count.{ones}
 use lib.IntN.{ℤ, pos, negsuc, _-ℤ_}

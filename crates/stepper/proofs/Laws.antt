@@ -1,11 +1,10 @@
 -- What each return of the code comes to, over plain values.
-use Prim.Native.Nat.{ℕ, suc, _+_, _≤_, _<_, min, zero-le}
+use Prim.Native.Nat.{ℕ, _+_, _≤_, _<_, zero-le}
 use mathlib.Core.Bool.{Bool, true, false, not, _&&_, _||_}
 use mathlib.Core.List.{List}
-use mathlib.Core.Path.{_≡_, refl, sym, _∙_}
-use native.Mathlib.Nat.{add-le-add, min-eq-left, min-eq-right}
+use mathlib.Core.Path.{_≡_, refl}
+use native.Mathlib.Nat.{add-le-add}
 use native.Mathlib.Omega.{arith}
-use lib.Dec.{lit≤}
 use lib.ListN.{getD, set}
 use Rattle.sheet.specs.declared.Bus.{Bus}
 use Rattle.sheet.specs.declared.State.{State}
@@ -13,16 +12,16 @@ use Rattle.sheet.specs.declared.Progress.{Progress}
 use Rattle.sheet.specs.declared.Instr.{Instr}
 use Rattle.sheet.specs.Width.{add16}
 use Rattle.sheet.specs.Psw.{BRK, flagOf}
-use Rattle.sheet.specs.Registers.{PC, PSW, fileOf, written}
+use Rattle.sheet.specs.Registers.{PC, PSW}
 use Rattle.sheet.specs.Log.{rule, risen}
-use Rattle.sheet.specs.World.{World, world, stateOf}
-use Rattle.sheet.specs.Act.{pure, halted}
+use Rattle.sheet.specs.World.{world, stateOf}
+use Rattle.sheet.specs.Act.{halted}
 use Rattle.sheet.specs.Handler.{nothing, _⊕_}
 use Rattle.sheet.specs.Traps.{trap}
 use Rattle.sheet.specs.Execute.{operation, execute}
 use Rattle.sheet.specs.Step.{interrupting, singleStep, stepping, counted}
-use Rattle.sheet.specs.Contract.{exec, Ends, Stops, OnMemory}
-use Rattle.sheet.proofs.Rules.{seq, seq-free, seq-last, seq-stops, seq-then-stops, seq-flag, seq-registers, seq-set, ends-pure, ends-halted, ends-flag, ends-registers, ends-set}
+use Rattle.sheet.specs.Contract.{Ends, Stops, OnMemory}
+use Rattle.sheet.proofs.Rules.{seq, seq-last, seq-stops, seq-then-stops, seq-flag, seq-registers, seq-set, ends-pure, ends-halted, ends-flag, ends-registers, ends-set}
 use Rattle.execute.specs.Performs.{Performs}
 use Rattle.stepper.specs.Proceeds.{begunAt, Finishes, Settles, Launches, Proceeds}
 

@@ -1,4 +1,3 @@
-use borrow.Author.Needs.{needs}
 use mathlib.Core.Path.{refl}
 use Rattle.sheet.specs.Step.{reset}
 use Rattle.calls.proofs.reset.Statement.{statement}

@@ -7,8 +7,8 @@ use Rattle.convert.proofs.unpacked.Tie as tie
 returns : tie.Need-returns
 unfolding unpacked
 returns c =
-    let o = c .before in
-    rw (c .moved2 .ensures .0, o .only .ensures .0, o .before .moved .ensures .0, o .before .before .digit .ensures .0)
+    let o = c .before .before in
+    rw (o .plain2 .ensures .0, o .before .only .ensures .0, o .before .before .plain .ensures .0, o .before .before .before .digit .ensures .0)
 
 pub unpacked-spec : {M : Type 1} → statement M
 unpacked-spec =

@@ -7,10 +7,10 @@ use Rattle.decimal.proofs.adjusted.Tie as tie
 returns : tie.Need-returns
 unfolding adjusted
 returns c =
-    let o = c .before .before in
-    rw (c .moved2 .ensures .0, c .before .only2 .ensures .0, o .comes-out .ensures, o .before .moved .ensures .0, o .before .before .only .ensures .0)
+    let o = c .before .before .before .before in
+    rw (c .plain2 .ensures .0, c .before .only2 .ensures .0, o .plain .ensures .0, o .before .only .ensures .0)
 
 pub adjusted-spec : {M : Type 1} → statement M
 adjusted-spec =
     tie.close
-    (tie.spec (λ c κs. search needs) (λ c κs. search needs) (λ c κs. search needs) (λ c κs. search needs) (λ c κs. search needs) returns)
+    (tie.spec (λ c κs. search needs) (λ c κs. search needs) (λ c κs. search needs) (λ c κs. search needs) returns)

@@ -6,7 +6,7 @@ use Rattle.decimal.proofs.digits.Tie as tie
 
 returns : tie.Need-returns
 unfolding digits
-returns c = rw (c .adjusted .ensures, c .before .plain .ensures)
+returns c = rw (c .adjusted .ensures, c .before .plain .ensures .0)
 
 pub digits-spec : {M : Type 1} → statement M
 digits-spec = tie.close (tie.spec (λ c κs. search needs) (λ c κs. search needs) returns)
