@@ -1,0 +1,356 @@
+-- Demand 3, of every engine whose calls tell what the definition's calls come to.
+use Prim.Native.Nat.{ℕ, zero, suc, _-_, _≤_, _<_}
+use mathlib.Core.Path.{_≡_, refl, sym, ap, ap₂, subst, _∙_}
+use mathlib.Core.Bool.{Bool, true, false, or-true}
+use mathlib.Core.List.{List, [], _∷_, _++_}
+use native.Mathlib.Decide.{decLt}
+use native.Mathlib.Nat.{le-refl, not-suc-le-zero, sub-zero}
+use native.Mathlib.Omega.{arith}
+use lib.Dec.{eqb, eqb·suc-zero}
+use lib.ListN.{length, getD, set}
+use borrow.Author.Tests.{le-leb}
+use Rattle.sheet.specs.declared.Instr.the-variants.{Blocks}
+use Rattle.sheet.specs.Width.{pick, sub16}
+use Rattle.sheet.specs.Registers.{CW, IX, IY, DS1, PS, PC, fileOf, segment}
+use Rattle.sheet.specs.Log.{rule}
+use Rattle.sheet.specs.World.{World, pswOf}
+use Rattle.sheet.specs.Handler.{Event, Outcome, refused, done, kept, run, happened}
+use Rattle.sheet.specs.Reading.{known, scan}
+use Rattle.sheet.specs.FirstByte.{instruction}
+use Rattle.sheet.specs.Step as sheet
+use Rattle.sheet.specs.Step.{fits, sound, refusal, codeAt, source, stepping, decoded, awake, stepBy, step, interrupt}
+use Rattle.sheet.proofs.ReadingLaws.{scan-rests}
+use Rattle.sheet.proofs.Lent.{Lent, Sound, Good}
+use Rattle.sheet.proofs.StepLaws.{sound-is, step-leaves, interrupt-leaves}
+use Rattle.theorems.specs.Repeat.{Block, ends, single, singles, elements, reg, Kept, own-byte, source-byte, target-byte, past, placed, Engine, Call, stepped, interrupted, Calls, no-call, and-then, Gap, quiet, service, Own, begun, next-own, shown, Taken, After, Claimed, Demand3}
+use Rattle.theorems.specs.RepeatEngines.{accesses, Tells, accepts, refuses, definition}
+use Rattle.theorems.proofs.RepeatCount.{firstOr-le, firstOr-pos, firstOr-before, firstOr-end}
+use Rattle.theorems.proofs.RepeatFile.{Keeps, placed-reads, placed-back, placed-pc}
+use Rattle.theorems.proofs.RepeatPrimitive.{fileAfter, CoversDue, Agree, primitive-local}
+use Rattle.theorems.proofs.RepeatSingles.{covers-by, single-is, singles-next, singles-keep, source-is, target-is, singles-own}
+use Rattle.theorems.proofs.RepeatTurn.{over, element-turn, empty-turn}
+
+-- an engine whose calls tell what the definition's calls come to
+pub record Faithful (E : Engine) : Type 0 where
+  pub step-tells : {w v : World} {n : ℕ} {o : E .Shown} → E .Step w n v o → Tells (E .of) w (step w) n v o
+  pub interrupt-tells : {x : ℕ} {m : Bool} {w v : World} {n : ℕ} {o : E .Shown} → E .Interrupt x m w n v o → Tells (E .of) w (interrupt x m w) n v o
+  pub same-shown : (t t′ : List Event) → accesses t ≡ accesses t′ → E .of t ≡ E .of t′
+
+-- ---- a step that is accepted
+
+not-done : {n : ℕ} {t t′ : List Event} {v : World} → _≡_ {A = Outcome Unit} (refused n t) (done tt v t′) → ⊥
+not-done e = let z : _≡_ {A = ℕ} 0 1 = cc in omega arith
+
+-- a call that is refused by a number other than 0 does not tell 0
+not-zero : {O : Type 0} {of : List Event → O} {w v : World} {out : Outcome Unit} {o : O} (n : ℕ) → Tells of w out 0 v o → out ≡ refusal (suc n) → ⊥
+not-zero n (accepts e) h = not-done (sym h ∙ e)
+not-zero n (refuses e) h = let z : _≡_ {A = ℕ} 0 (suc n) = cc in omega arith
+
+record Ready (w : World) : Type 0 where
+  fit : fits w ≡ true
+  good : sound w ≡ true
+  up : w .state .halted ≡ false
+
+-- numbers 1, 2 and 8 were not due
+ready : {O : Type 0} {of : List Event → O} {w v : World} {o : O} → Tells of w (step w) 0 v o → Ready w
+unfolding step stepBy awake
+ready {w = w} h = go (fits w) (sound w) (w .state .halted) refl refl refl
+  where
+    go : (f s u : Bool) → fits w ≡ f → sound w ≡ s → w .state .halted ≡ u → Ready w
+    go true true false a b c = record { fit = a; good = b; up = c }
+    go true true true a b c = absurd (not-zero 7 h (rw (a, b, c)))
+    go true false u a b c = absurd (not-zero 1 h (rw (a, b)))
+    go false s u a b c = absurd (not-zero 0 h (rw a))
+
+-- number 2 is not due of a sound state
+sound-back : (w : World) → Sound w → sound w ≡ true
+unfolding sound
+sound-back w s =
+    rw (s .fixed, le-leb (w .state .tape) (length (w .tape)) (s .tape-in), le-leb (w .state .log) (length (w .log)) (s .log-in), le-leb (w .state .count) (rule .ceiling) (s .count-in))
+
+fits-lent : {w v : World} → Lent w v → fits w ≡ true → fits v ≡ true
+unfolding fits
+fits-lent l e = rw (l .ram-long, l .rom-same) e
+
+-- what is read at PS:PC is what the step does
+turns : (w : World) (i : Block) → Ready w → scan instruction (source w) 0 ≡ known (Blocks (i .kind) (i .word) (i .seg) (i .repeat)) (i .size)
+    → step w ≡ run (stepping (Blocks (i .kind) (i .word) (i .seg) (i .repeat)) (i .size)) (sheet.counted w)
+unfolding step stepBy awake decoded run
+turns w i r e = rw (r .fit, r .good, r .up, e)
+
+-- ---- calls keep what is lent, and a sound state
+
+lent-refl : (w : World) → Lent w w
+lent-refl w = record { ram-long = refl; rom-same = refl; tape-same = refl; log-long = refl }
+
+lent-then : {w v u : World} → Lent w v → Lent v u → Lent w u
+lent-then x y = record {
+  ram-long = y .ram-long ∙ x .ram-long;
+  rom-same = y .rom-same ∙ x .rom-same;
+  tape-same = y .tape-same ∙ x .tape-same;
+  log-long = y .log-long ∙ x .log-long;
+}
+
+step-good : {w v : World} {t : List Event} → Sound w → step w ≡ done tt v t → Good w v
+unfolding step
+step-good {w} {v} {t} s e = step-leaves kept w v t (s .whole) e
+
+module _ (E : Engine) (F : Faithful E) where
+  call-leaves : {w v : World} → Sound w → Call E w v → Good w v
+  unfolding interrupt
+  call-leaves {w} s (stepped o h) = go (F .step-tells h)
+    where
+      go : {v : World} {o : E .Shown} → Tells (E .of) w (step w) 0 v o → Good w v
+      go (accepts e) = step-good s e
+      go (refuses e) = record { lent = lent-refl w; sound = s }
+  call-leaves {w} s (interrupted x m o r h) = go (F .interrupt-tells h)
+    where
+      go : {v : World} {o : E .Shown} → Tells (E .of) w (interrupt x m w) 0 v o → Good w v
+      go (accepts {v = v} {t = t} e) = interrupt-leaves kept w v t (s .whole) x m e
+      go (refuses e) = record { lent = lent-refl w; sound = s }
+
+  calls-leave : {w v : World} → Sound w → Calls E w v → Good w v
+  calls-leave {w} s no-call = record { lent = lent-refl w; sound = s }
+  calls-leave s (and-then u c) =
+      let g = calls-leave s u in
+      let h = call-leaves (g .sound) c in
+      record { lent = lent-then (g .lent) (h .lent); sound = h .sound }
+
+  -- a step that the definition accepts is answered so
+  record Answered (n : ℕ) (v u : World) (o : E .Shown) (t : List Event) : Type 0 where
+    zero-is : n ≡ 0
+    world-is : u ≡ v
+    shown-is : o ≡ E .of t
+
+  answered : {w u v : World} {n : ℕ} {o : E .Shown} {t : List Event} → E .Step w n u o → step w ≡ done tt v t → Answered n v u o t
+  answered {w} {v = v} {t = t} h e = go (F .step-tells h)
+    where
+      go : {n : ℕ} {u : World} {o : E .Shown} → Tells (E .of) w (step w) n u o → Answered n v u o t
+      go (accepts {v = v′} {t = t′} x) = record { zero-is = refl; world-is = cc; shown-is = ap (E .of) (cc) }
+      go (refuses x) = absurd (not-done (sym x ∙ e))
+
+eqb-pos : (x : ℕ) → 0 < x → eqb x 0 ≡ false
+eqb-pos zero h = absurd (not-suc-le-zero h)
+eqb-pos (suc x) h = eqb·suc-zero x
+
+-- ---- k, and where PC goes
+
+module _ (i : Block) (w : World) where
+  abbrev psw-after : ℕ → ℕ
+  psw-after j = pswOf (singles i w j .state)
+
+  abbrev pcAfter : ℕ → ℕ
+  pcAfter j = pick (over (i .kind) (i .repeat) (reg w CW - j) (psw-after (suc j))) (past i w) (reg w PC)
+
+  pub elements-le : elements i w ≤ reg w CW
+  unfolding elements
+  elements-le = firstOr-le (reg w CW) _
+
+  pc-stays : (j : ℕ) → reg w CW < 65536 → suc j < elements i w → pcAfter j ≡ reg w PC
+  unfolding elements
+  pc-stays j s h =
+      let f : ℕ → Bool = λ x. ends (i .kind) (i .repeat) (psw-after x) in
+      let le = firstOr-le (reg w CW) f in
+      rw (firstOr-before (reg w CW) f j h, eqb-pos (sub16 (reg w CW - j) 1) (omega arith))
+
+  pc-past : (j : ℕ) → reg w CW < 65536 → suc j ≡ elements i w → pcAfter j ≡ past i w
+  unfolding elements
+  pc-past j s h = go (decLt (suc j) (reg w CW))
+    where
+      f : ℕ → Bool
+      f = λ x. ends (i .kind) (i .repeat) (psw-after x)
+
+      go : Dec (suc j < reg w CW) → pcAfter j ≡ past i w
+      go (yes lt) =
+          let e : f (suc j) ≡ true = rw h (firstOr-end (reg w CW) f (rw h at lt)) in
+          rw e
+      go (no nl) =
+          let le = firstOr-le (reg w CW) f in
+          let e : sub16 (reg w CW - j) 1 ≡ 0 = omega arith in
+          rw (e, or-true)
+
+-- ---- the claim
+
+module _ (E : Engine) (F : Faithful E) (i : Block) (w : World) (t : Taken E i w) (K : ℕ → Type 0) (inside : (a : ℕ) → Kept i w (elements i w) a → K a) where
+  -- what holds between own steps, PC at p
+  record Inv (p j : ℕ) (l : List (E .Shown)) (v : World) : Type 0 where
+    registers : v .state .file ≡ placed (reg w CW - j) p (singles i w j .state .file)
+    memory : Agree K (v .ram) (v .rom) (singles i w j .ram) (singles i w j .rom)
+    showed : l ≡ shown E i w j
+    lent : Lent w v
+    sound : Sound v
+    awake : v .state .halted ≡ false
+
+  at-first : Ready w
+  at-first = let (v, o, h) = t .accepted in ready (F .step-tells h)
+
+  keep : (j : ℕ) → Keeps (w .state .file) (singles i w j .state .file)
+  keep j = singles-keep i w (t .blocks) (t .whole) j
+
+  inv-begun : Inv (reg w PC) 0 [] w
+  unfolding singles shown
+  inv-begun =
+      record {
+        registers = rw (sub-zero (reg w CW)) (sym (placed-back (w .state .file) (t .whole)));
+        memory = record { long = refl; same = λ a k. refl };
+        showed = refl;
+        lent = lent-refl w;
+        sound = sound-is w (t .whole) (at-first .good);
+        awake = at-first .up;
+      }
+
+  -- what falls between changes none of it
+  across : {p j : ℕ} {l : List (E .Shown)} {v v′ : World} → Inv p j l v → Gap E K v v′ → Inv p j l v′
+  across {p} {j} {l} x (quiet e) = subst (λ v. Inv p j l v) (sym e) x
+  across x (service s r) =
+      let g = call-leaves E F (x .sound) (interrupted (s .vector) (s .maskable) (s .shown) (s .in-range) (s .taken)) in
+      let h = calls-leave E F (g .sound) (s .served) in
+      record {
+        registers = r .registers ∙ x .registers;
+        memory = record { long = h .lent .ram-long ∙ g .lent .ram-long ∙ x .memory .long; same = λ a k. r .kept a k ∙ x .memory .same a k };
+        showed = x .showed;
+        lent = lent-then (x .lent) (lent-then (g .lent) (h .lent));
+        sound = h .sound;
+        awake = s .awake;
+      }
+
+  -- the instruction is read again
+  still-read : {j : ℕ} {l : List (E .Shown)} {v : World} → j ≤ reg w CW → Inv (reg w PC) j l v
+      → scan instruction (source v) 0 ≡ known (Blocks (i .kind) (i .word) (i .seg) (i .repeat)) (i .size)
+  still-read {j} {l} {v} h x =
+      let f : List ℕ = singles i w j .state .file in
+      let r = placed-reads (reg w CW - j) (reg w PC) f (keep j .long) in
+      let ps : getD (v .state .file) PS 0 ≡ reg w PS = ap (λ g. getD g PS 0) (x .registers) ∙ r .ps ∙ keep j .ps in
+      let pc : getD (v .state .file) PC 0 ≡ reg w PC = ap (λ g. getD g PC 0) (x .registers) ∙ r .pc in
+      sym
+      (scan-rests instruction (source w) (source v) 0
+      (λ c low high.
+      let in-size : c < i .size = rw (t .read) at high in
+      rw (ps, pc)
+      (sym
+      (x .memory .same (codeAt (reg w PS) (reg w PC) c) (inside _ (own-byte c in-size refl))
+      ∙ singles-own i w (t .blocks) (t .whole) (t .clean) j h c in-size))))
+      ∙ t .read
+
+  -- one own step: accepted, and one more single primitive
+  record Next (p j : ℕ) (l : List (E .Shown)) (v : World) : Type 0 where
+    u : World
+    events : List Event
+    is : step v ≡ done tt u events
+    inv : Inv p (suc j) (l ++ (E .of events ∷ [])) u
+
+  own-step : {j : ℕ} {l : List (E .Shown)} {v : World} → j < elements i w → Inv (reg w PC) j l v → Next (pcAfter i w j) j l v
+  unfolding sheet.counted shown
+  own-step {j} {l} {v} h x =
+      let le = elements-le i w in
+      let wide = t .sixteen in
+      let f : List ℕ = singles i w j .state .file in
+      let c : ℕ = reg w CW - j in
+      let k = keep j in
+      let go : Ready v = record { fit = fits-lent (x .lent) (at-first .fit); good = sound-back v (x .sound); up = x .awake } in
+      let e = turns v i go (still-read (omega arith) x) in
+      let covers : CoversDue K (i .kind) (i .word) (i .seg) f = (
+        λ hs. covers-by (i .word) (fileOf f (segment (i .seg))) (getD f IX 0) (λ a q. inside a (source-byte j h hs (source-is i w (t .blocks) (t .whole) hs j a q))),
+        λ ht. covers-by (i .word) (getD f DS1 0) (getD f IY 0) (λ a q. inside a (target-byte j h ht (target-is i w (t .blocks) (t .whole) ht j a q))),
+      ) in
+      let same = primitive-local K (i .kind) (i .word) (i .seg) f (v .ram) (v .rom) (singles i w j .ram) (singles i w j .rom) (t .blocks) covers (x .memory) in
+      let made =
+      element-turn (i .kind) (i .word) (i .seg) (i .repeat) (i .size) c (reg w PC) (sheet.counted v) f (k .long) (x .registers) (k .brk ∙ t .untraced) (t .blocks) (t .repeated)
+      (eqb-pos c (omega arith)) in
+      let is : step v ≡ done tt (made .v) (made .t) = e ∙ made .ran .is in
+      let left = step-good (x .sound) is in
+      let less : sub16 c 1 ≡ reg w CW - suc j = omega arith in
+      let after = singles-next i w (t .blocks) j in
+      let file : fileAfter (i .kind) (i .word) (i .seg) f (v .ram) (v .rom) ≡ singles i w (suc j) .state .file = same .file ∙ ap (λ u. u .state .file) (sym after) in
+      record {
+        u = made .v;
+        events = made .t;
+        is = is;
+        inv =
+            record {
+              registers = made .file-is ∙ rw (file, less);
+              memory =
+                  record {
+                    long = rw (made .ram-is, after) (same .memory .long);
+                    same = λ a q. rw (made .ram-is, made .rom-is, after) (same .memory .same a q);
+                  };
+              showed =
+                  ap₂ (λ y z. y ++ (z ∷ [])) (x .showed)
+                  (F .same-shown (made .t) (happened (single i (singles i w j))) (made .shows ∙ rw (single-is i w (t .blocks) (singles i w j)) (ap accesses (same .events))));
+              lent = lent-then (x .lent) (left .lent);
+              sound = left .sound;
+              awake = made .halted-is ∙ x .awake;
+            };
+      }
+
+  -- the next own step, whatever fell before it and whatever it answered
+  next-step : {j n : ℕ} {l : List (E .Shown)} {o : E .Shown} {v v′ v″ : World} → j < elements i w → Inv (reg w PC) j l v → Gap E K v v′ → E .Step v′ n v″ o
+      → (n ≡ 0) × Inv (pcAfter i w j) (suc j) (l ++ (o ∷ [])) v″
+  next-step {j} {l = l} h x g s =
+      let m = own-step h (across x g) in
+      let a = answered E F s (m .is) in
+      (a .zero-is, rw (a .world-is, a .shown-is) (m .inv))
+
+  way : {j : ℕ} {l : List (E .Shown)} {v : World} → Own E K w j l v → j < elements i w → Inv (reg w PC) j l v
+  way begun h = inv-begun
+  way (next-own {j} {l} {o} {v″ = v″} x g s) h =
+      subst (λ p. Inv p (suc j) (l ++ (o ∷ [])) v″) (pc-stays i w j (t .sixteen) h) (next-step (omega arith) (way x (omega arith)) g s .1)
+
+  end : {j : ℕ} {l : List (E .Shown)} {v : World} → Own E K w j l v → j ≡ elements i w → 0 < j → Inv (past i w) j l v
+  end begun h pos = absurd (not-suc-le-zero pos)
+  end (next-own {j} {l} {o} {v″ = v″} x g s) h pos =
+      subst (λ p. Inv p (suc j) (l ++ (o ∷ [])) v″) (pc-past i w j (t .sixteen) h) (next-step (omega arith) (way x (omega arith)) g s .1)
+
+  after : {p j : ℕ} {l : List (E .Shown)} {v : World} → Inv p j l v → After E i w K p j l v
+  after x = record { registers = x .registers; kept = x .memory .same; accesses = x .showed; awake = x .awake }
+
+  reach : ((v : World) → (n : ℕ) × (u : World) × (o : E .Shown) × E .Step v n u o)
+      → ((j : ℕ) (l : List (E .Shown)) (v : World) → j < elements i w → Own E K w j l v → (v′ : World) × Gap E K v v′)
+      → (j : ℕ) → j ≤ elements i w → (l : List (E .Shown)) × (v : World) × Own E K w j l v
+  reach answers plan zero h = ([], w, begun)
+  reach answers plan (suc j) h =
+      let (l, v, x) = reach answers plan j (omega arith) in
+      let (v′, g) = plan j l v h x in
+      let (n, u, o, s) = answers v′ in
+      let z = next-step h (way x h) g s .0 in
+      (l ++ (o ∷ []), u, next-own x g (subst (λ n. E .Step v′ n u o) z s))
+
+  -- CW = 0
+  at-zero : reg w CW ≡ 0 → (n : ℕ) (v u : World) (o : E .Shown) → Gap E K w v → E .Step v n u o
+      → (n ≡ 0) × (u .state .file ≡ set (w .state .file) PC (past i w)) × (u .ram ≡ v .ram) × (o ≡ E .of [])
+  unfolding sheet.counted singles
+  at-zero z n v u o g s =
+      let x = across inv-begun g in
+      let go : Ready v = record { fit = fits-lent (x .lent) (at-first .fit); good = sound-back v (x .sound); up = x .awake } in
+      let e = turns v i go (still-read (omega arith) x) in
+      let here : v .state .file ≡ placed (reg w CW) (reg w PC) (w .state .file) = rw (sub-zero (reg w CW)) at (x .registers) in
+      let made = empty-turn (i .kind) (i .word) (i .seg) (i .repeat) (i .size) (reg w CW) (reg w PC) (sheet.counted v) (w .state .file) (t .whole) here (t .untraced) (t .repeated) (rw z) in
+      let a = answered E F s (e ∙ made .ran .is) in (
+        a .zero-is,
+        ap (λ y. y .state .file) (a .world-is) ∙ made .file-is ∙ placed-pc (past i w) (w .state .file) (t .whole),
+        ap (λ y. y .ram) (a .world-is) ∙ made .ram-is,
+        a .shown-is ∙ F .same-shown (made .t) [] (made .shows),
+      )
+
+  claimed : Claimed E i w (elements i w) K
+  unfolding elements
+  claimed =
+      record {
+        empty = at-zero;
+        goes-on = λ j n l o v v′ v″ h x g s. next-step h (way x h) g s .0;
+        on-the-way = λ j l v h x. after (way x h);
+        at-the-end = λ l v pos x. after (end x refl pos);
+        comes-to-an-end = λ answers plan. reach answers plan _ (le-refl _);
+        some-element = firstOr-pos (reg w CW) _;
+      }
+
+-- DEMAND 3 holds of every faithful engine
+pub demand3 : (E : Engine) → Faithful E → Demand3 E
+demand3 E F i w t K inside = claimed E F i w t K inside
+
+-- and so of the definition
+pub definition-faithful : Faithful definition
+definition-faithful = record { step-tells = λ h. h; interrupt-tells = λ h. h; same-shown = λ t t′ e. e }
+
+pub definition-demand3 : Demand3 definition
+definition-demand3 = demand3 definition definition-faithful

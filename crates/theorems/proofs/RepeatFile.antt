@@ -1,0 +1,218 @@
+-- The fourteen words of a state, and what one primitive makes of them.
+use Prim.Native.Nat.{ℕ, zero, suc, _+_, _%_, _<_}
+use mathlib.Core.Path.{_≡_, refl, ap, _∙_}
+use mathlib.Core.Bool.{Bool, true, false}
+use mathlib.Core.List.{List, [], _∷_}
+use native.Mathlib.Omega.{arith}
+use lib.Dec.{T}
+use lib.ListN.{length, getD, set}
+use Rattle.sheet.specs.declared.Primitive.{Primitive}
+use Rattle.sheet.specs.declared.Primitive.the-variants.{Movbk, Cmpbk, Cmpm, Ldm, Stm, Inm, Outm}
+use Rattle.sheet.specs.Width.{pick, bytesOf, add16, sub16}
+use Rattle.sheet.specs.Psw.{BRK, DIR, keeps, flagOf, column, settled}
+use Rattle.sheet.specs.Registers.{AW, CW, IX, IY, DS1, PS, SS, DS0, PC, PSW, fileOf, segment, readReg, regWord}
+use Rattle.sheet.specs.Arithmetic.{difference}
+use Rattle.sheet.proofs.PswLaws.{flag-settled}
+use Rattle.theorems.specs.Repeat.{ofMemory, hasSource, hasTarget, placed}
+
+-- what holds of any fourteen words holds of a list of that length
+pub fourteen : (P : List ℕ → Type 0)
+    → ((a b c d e f g h i j k l m n : ℕ) → P (a ∷ b ∷ c ∷ d ∷ e ∷ f ∷ g ∷ h ∷ i ∷ j ∷ k ∷ l ∷ m ∷ n ∷ []))
+    → (w : List ℕ) → length w ≡ 14 → P w
+fourteen P q [] z = absurd (omega arith)
+fourteen P q (a ∷ []) z = absurd (omega arith)
+fourteen P q (a ∷ b ∷ []) z = absurd (omega arith)
+fourteen P q (a ∷ b ∷ c ∷ []) z = absurd (omega arith)
+fourteen P q (a ∷ b ∷ c ∷ d ∷ []) z = absurd (omega arith)
+fourteen P q (a ∷ b ∷ c ∷ d ∷ e ∷ []) z = absurd (omega arith)
+fourteen P q (a ∷ b ∷ c ∷ d ∷ e ∷ f ∷ []) z = absurd (omega arith)
+fourteen P q (a ∷ b ∷ c ∷ d ∷ e ∷ f ∷ g ∷ []) z = absurd (omega arith)
+fourteen P q (a ∷ b ∷ c ∷ d ∷ e ∷ f ∷ g ∷ h ∷ []) z = absurd (omega arith)
+fourteen P q (a ∷ b ∷ c ∷ d ∷ e ∷ f ∷ g ∷ h ∷ i ∷ []) z = absurd (omega arith)
+fourteen P q (a ∷ b ∷ c ∷ d ∷ e ∷ f ∷ g ∷ h ∷ i ∷ j ∷ []) z = absurd (omega arith)
+fourteen P q (a ∷ b ∷ c ∷ d ∷ e ∷ f ∷ g ∷ h ∷ i ∷ j ∷ k ∷ []) z = absurd (omega arith)
+fourteen P q (a ∷ b ∷ c ∷ d ∷ e ∷ f ∷ g ∷ h ∷ i ∷ j ∷ k ∷ l ∷ []) z = absurd (omega arith)
+fourteen P q (a ∷ b ∷ c ∷ d ∷ e ∷ f ∷ g ∷ h ∷ i ∷ j ∷ k ∷ l ∷ m ∷ []) z = absurd (omega arith)
+fourteen P q (a ∷ b ∷ c ∷ d ∷ e ∷ f ∷ g ∷ h ∷ i ∷ j ∷ k ∷ l ∷ m ∷ n ∷ []) z = q a b c d e f g h i j k l m n
+fourteen P q (a ∷ b ∷ c ∷ d ∷ e ∷ f ∷ g ∷ h ∷ i ∷ j ∷ k ∷ l ∷ m ∷ n ∷ o ∷ w) z = absurd (omega arith)
+
+-- an index register moved by one element; PSW after a comparison; AW or AL loaded
+unfoldable pub stepped : Bool → ℕ → List ℕ → List ℕ
+stepped b n f = set f n (pick (flagOf (getD f PSW 0) DIR) (sub16 (getD f n 0) (bytesOf b)) (add16 (getD f n 0) (bytesOf b)))
+
+unfoldable pub compared : Bool → (x y : ℕ) → List ℕ → List ℕ
+compared b x y f = set f PSW (settled keeps (column (difference b x y false .column)) (getD f PSW 0))
+
+unfoldable pub loaded : Bool → ℕ → List ℕ → List ℕ
+loaded b v f = set f AW (regWord b (fileOf f) AW v)
+
+-- the words after a primitive that read x from its source and y from its target
+unfoldable pub made : Primitive → Bool → (x y : ℕ) → List ℕ → List ℕ
+made Movbk b x y f = stepped b IY (stepped b IX f)
+made Cmpbk b x y f = stepped b IY (stepped b IX (compared b x y f))
+made Cmpm b x y f = stepped b IY (compared b (readReg b (fileOf f) AW) y f)
+made Ldm b x y f = stepped b IX (loaded b x f)
+made Stm b x y f = stepped b IY f
+made Inm b x y f = f
+made Outm b x y f = f
+
+-- an index register after one element, by DIR
+abbrev pub onward : Bool → Bool → ℕ → ℕ
+onward down b o = pick down (sub16 o (bytesOf b)) (add16 o (bytesOf b))
+
+-- what every primitive keeps
+pub record Keeps (f g : List ℕ) : Type 0 where
+  pub long : length g ≡ 14
+  pub cw : getD g CW 0 ≡ getD f CW 0
+  pub ds1 : getD g DS1 0 ≡ getD f DS1 0
+  pub ps : getD g PS 0 ≡ getD f PS 0
+  pub ss : getD g SS 0 ≡ getD f SS 0
+  pub ds0 : getD g DS0 0 ≡ getD f DS0 0
+  pub pc : getD g PC 0 ≡ getD f PC 0
+  pub brk : flagOf (getD g PSW 0) BRK ≡ flagOf (getD f PSW 0) BRK
+  pub dir : flagOf (getD g PSW 0) DIR ≡ flagOf (getD f PSW 0) DIR
+
+pub keeps-all : {f : List ℕ} → length f ≡ 14 → Keeps f f
+keeps-all e = record { long = e; cw = refl; ds1 = refl; ps = refl; ss = refl; ds0 = refl; pc = refl; brk = refl; dir = refl }
+
+pub keeps-then : {f g h : List ℕ} → Keeps f g → Keeps g h → Keeps f h
+keeps-then x y = record {
+  long = y .long;
+  cw = y .cw ∙ x .cw;
+  ds1 = y .ds1 ∙ x .ds1;
+  ps = y .ps ∙ x .ps;
+  ss = y .ss ∙ x .ss;
+  ds0 = y .ds0 ∙ x .ds0;
+  pc = y .pc ∙ x .pc;
+  brk = y .brk ∙ x .brk;
+  dir = y .dir ∙ x .dir;
+}
+
+-- the segment register that a number names
+segment-is : (f g : List ℕ) → getD f DS1 0 ≡ getD g DS1 0 → getD f PS 0 ≡ getD g PS 0 → getD f SS 0 ≡ getD g SS 0 → getD f DS0 0 ≡ getD g DS0 0
+    → (n : ℕ) → fileOf f (segment n) ≡ fileOf g (segment n)
+segment-is f g a b c d n = go (n % 4) (omega arith)
+  where
+    go : (x : ℕ) → x < 4 → fileOf f (DS1 + x) ≡ fileOf g (DS1 + x)
+    go zero h = a
+    go (suc zero) h = b
+    go (suc (suc zero)) h = c
+    go (suc (suc (suc zero))) h = d
+    go (suc (suc (suc (suc x)))) h = absurd (omega arith)
+
+pub keeps-segment : {f g : List ℕ} → Keeps f g → (n : ℕ) → fileOf g (segment n) ≡ fileOf f (segment n)
+keeps-segment {f} {g} k n = segment-is g f (k .ds1) (k .ps) (k .ss) (k .ds0) n
+
+-- CW and PC are no part of a primitive
+module _ (x p : ℕ) where
+  pub made-placed : (k : Primitive) (w : Bool) (y z : ℕ) (f : List ℕ) → length f ≡ 14 → made k w y z (placed x p f) ≡ placed x p (made k w y z f)
+  unfolding made stepped compared loaded readReg regWord
+  made-placed Movbk w y z = fourteen (λ f. made Movbk w y z (placed x p f) ≡ placed x p (made Movbk w y z f)) (λ a b c d e f g h i j k l m n. refl)
+  made-placed Cmpbk w y z = fourteen (λ f. made Cmpbk w y z (placed x p f) ≡ placed x p (made Cmpbk w y z f)) (λ a b c d e f g h i j k l m n. refl)
+  made-placed Cmpm true y z = fourteen (λ f. made Cmpm true y z (placed x p f) ≡ placed x p (made Cmpm true y z f)) (λ a b c d e f g h i j k l m n. refl)
+  made-placed Cmpm false y z = fourteen (λ f. made Cmpm false y z (placed x p f) ≡ placed x p (made Cmpm false y z f)) (λ a b c d e f g h i j k l m n. refl)
+  made-placed Ldm true y z = fourteen (λ f. made Ldm true y z (placed x p f) ≡ placed x p (made Ldm true y z f)) (λ a b c d e f g h i j k l m n. refl)
+  made-placed Ldm false y z = fourteen (λ f. made Ldm false y z (placed x p f) ≡ placed x p (made Ldm false y z f)) (λ a b c d e f g h i j k l m n. refl)
+  made-placed Stm w y z = fourteen (λ f. made Stm w y z (placed x p f) ≡ placed x p (made Stm w y z f)) (λ a b c d e f g h i j k l m n. refl)
+  made-placed Inm w y z = λ f e. refl
+  made-placed Outm w y z = λ f e. refl
+
+  pub placed-reg : (w : Bool) (f : List ℕ) → length f ≡ 14 → readReg w (fileOf (placed x p f)) AW ≡ readReg w (fileOf f) AW
+  unfolding readReg
+  placed-reg true = fourteen (λ f. readReg true (fileOf (placed x p f)) AW ≡ readReg true (fileOf f) AW) (λ a b c d e f g h i j k l m n. refl)
+  placed-reg false = fourteen (λ f. readReg false (fileOf (placed x p f)) AW ≡ readReg false (fileOf f) AW) (λ a b c d e f g h i j k l m n. refl)
+
+  -- what reads the same
+  pub record Reads (f g : List ℕ) : Type 0 where
+    pub ix : getD g IX 0 ≡ getD f IX 0
+    pub iy : getD g IY 0 ≡ getD f IY 0
+    pub ds1 : getD g DS1 0 ≡ getD f DS1 0
+    pub ps : getD g PS 0 ≡ getD f PS 0
+    pub ss : getD g SS 0 ≡ getD f SS 0
+    pub ds0 : getD g DS0 0 ≡ getD f DS0 0
+    pub psw : getD g PSW 0 ≡ getD f PSW 0
+    pub long : length g ≡ 14
+    pub cw : getD g CW 0 ≡ x
+    pub pc : getD g PC 0 ≡ p
+
+  pub placed-reads : (f : List ℕ) → length f ≡ 14 → Reads f (placed x p f)
+  placed-reads = fourteen (λ f. Reads f (placed x p f)) (λ a b c d e f g h i j k l m n. record { ix = refl; iy = refl; ds1 = refl; ps = refl; ss = refl; ds0 = refl; psw = refl; long = refl; cw = refl; pc = refl })
+
+  pub placed-segment : (f : List ℕ) → length f ≡ 14 → (n : ℕ) → fileOf (placed x p f) (segment n) ≡ fileOf f (segment n)
+  placed-segment f e n =
+      let r = placed-reads f e in
+      segment-is (placed x p f) f (r .ds1) (r .ps) (r .ss) (r .ds0) n
+
+-- ---- what each part of a primitive keeps
+
+stepped-ix : (w : Bool) (f : List ℕ) → length f ≡ 14 → Keeps f (stepped w IX f)
+unfolding stepped
+stepped-ix w = fourteen (λ f. Keeps f (stepped w IX f)) (λ a b c d e f g h i j k l m n. record { long = refl; cw = refl; ds1 = refl; ps = refl; ss = refl; ds0 = refl; pc = refl; brk = refl; dir = refl })
+
+stepped-iy : (w : Bool) (f : List ℕ) → length f ≡ 14 → Keeps f (stepped w IY f)
+unfolding stepped
+stepped-iy w = fourteen (λ f. Keeps f (stepped w IY f)) (λ a b c d e f g h i j k l m n. record { long = refl; cw = refl; ds1 = refl; ps = refl; ss = refl; ds0 = refl; pc = refl; brk = refl; dir = refl })
+
+compared-keeps : (w : Bool) (x y : ℕ) (f : List ℕ) → length f ≡ 14 → Keeps f (compared w x y f)
+unfolding compared
+compared-keeps w x y = fourteen (λ f. Keeps f (compared w x y f)) (λ a b c d e f g h i j k l m n. record { long = refl; cw = refl; ds1 = refl; ps = refl; ss = refl; ds0 = refl; pc = refl; brk = flag-settled keeps (column (difference w x y false .column)) n BRK; dir = flag-settled keeps (column (difference w x y false .column)) n DIR })
+
+loaded-keeps : (w : Bool) (x : ℕ) (f : List ℕ) → length f ≡ 14 → Keeps f (loaded w x f)
+unfolding loaded
+loaded-keeps w x = fourteen (λ f. Keeps f (loaded w x f)) (λ a b c d e f g h i j k l m n. record { long = refl; cw = refl; ds1 = refl; ps = refl; ss = refl; ds0 = refl; pc = refl; brk = refl; dir = refl })
+
+pub made-keeps : (k : Primitive) (w : Bool) (x y : ℕ) (f : List ℕ) → length f ≡ 14 → Keeps f (made k w x y f)
+unfolding made
+made-keeps Movbk w x y f e =
+    let i = stepped-ix w f e in
+    keeps-then i (stepped-iy w (stepped w IX f) (i .long))
+made-keeps Cmpbk w x y f e =
+    let c = compared-keeps w x y f e in
+    let i = stepped-ix w (compared w x y f) (c .long) in
+    keeps-then c (keeps-then i (stepped-iy w (stepped w IX (compared w x y f)) (i .long)))
+made-keeps Cmpm w x y f e =
+    let c = compared-keeps w (readReg w (fileOf f) AW) y f e in
+    keeps-then c (stepped-iy w (compared w (readReg w (fileOf f) AW) y f) (c .long))
+made-keeps Ldm w x y f e =
+    let l = loaded-keeps w x f e in
+    keeps-then l (stepped-ix w (loaded w x f) (l .long))
+made-keeps Stm w x y f e = stepped-iy w f e
+made-keeps Inm w x y f e = keeps-all e
+made-keeps Outm w x y f e = keeps-all e
+
+-- ---- an index register that has a block moves by one element
+
+moved-dir : (w : Bool) (x y : ℕ) (n o : ℕ) → onward (flagOf (settled keeps (column (difference w x y false .column)) n) DIR) w o ≡ onward (flagOf n DIR) w o
+moved-dir w x y n o = ap (λ d. onward d w o) (flag-settled keeps (column (difference w x y false .column)) n DIR)
+
+no-false : _≡_ {A = Bool} false true → ⊥
+no-false e = let z : _≡_ {A = ℕ} 0 1 = cc in omega arith
+
+pub made-ix : (k : Primitive) (w : Bool) (x y : ℕ) → T (hasSource k) → ofMemory k ≡ true → (f : List ℕ) → length f ≡ 14
+    → getD (made k w x y f) IX 0 ≡ onward (flagOf (getD f PSW 0) DIR) w (getD f IX 0)
+unfolding made stepped compared loaded
+made-ix Movbk w x y t m = fourteen (λ f. getD (made Movbk w x y f) IX 0 ≡ onward (flagOf (getD f PSW 0) DIR) w (getD f IX 0)) (λ a b c d e f g h i j k l m n. refl)
+made-ix Cmpbk w x y t m = fourteen (λ f. getD (made Cmpbk w x y f) IX 0 ≡ onward (flagOf (getD f PSW 0) DIR) w (getD f IX 0)) (λ a b c d e f g h i j k l m n. moved-dir w x y n g)
+made-ix Cmpm w x y t m = absurd t
+made-ix Ldm w x y t m = fourteen (λ f. getD (made Ldm w x y f) IX 0 ≡ onward (flagOf (getD f PSW 0) DIR) w (getD f IX 0)) (λ a b c d e f g h i j k l m n. refl)
+made-ix Stm w x y t m = absurd t
+made-ix Inm w x y t m = absurd t
+made-ix Outm w x y t m = absurd (no-false m)
+
+pub made-iy : (k : Primitive) (w : Bool) (x y : ℕ) → T (hasTarget k) → ofMemory k ≡ true → (f : List ℕ) → length f ≡ 14
+    → getD (made k w x y f) IY 0 ≡ onward (flagOf (getD f PSW 0) DIR) w (getD f IY 0)
+unfolding made stepped compared
+made-iy Movbk w x y t m = fourteen (λ f. getD (made Movbk w x y f) IY 0 ≡ onward (flagOf (getD f PSW 0) DIR) w (getD f IY 0)) (λ a b c d e f g h i j k l m n. refl)
+made-iy Cmpbk w x y t m = fourteen (λ f. getD (made Cmpbk w x y f) IY 0 ≡ onward (flagOf (getD f PSW 0) DIR) w (getD f IY 0)) (λ a b c d e f g h i j k l m n. moved-dir w x y n h)
+made-iy Cmpm w x y t m = fourteen (λ f. getD (made Cmpm w x y f) IY 0 ≡ onward (flagOf (getD f PSW 0) DIR) w (getD f IY 0)) (λ a b c d e f g h i j k l m n. moved-dir w (readReg w (fileOf (a ∷ b ∷ c ∷ d ∷ e ∷ f ∷ g ∷ h ∷ i ∷ j ∷ k ∷ l ∷ m ∷ n ∷ [])) AW) y n h)
+made-iy Ldm w x y t m = absurd t
+made-iy Stm w x y t m = fourteen (λ f. getD (made Stm w x y f) IY 0 ≡ onward (flagOf (getD f PSW 0) DIR) w (getD f IY 0)) (λ a b c d e f g h i j k l m n. refl)
+made-iy Inm w x y t m = absurd (no-false m)
+made-iy Outm w x y t m = absurd t
+
+-- CW and PC as they are
+pub placed-back : (f : List ℕ) → length f ≡ 14 → placed (getD f CW 0) (getD f PC 0) f ≡ f
+placed-back = fourteen (λ f. placed (getD f CW 0) (getD f PC 0) f ≡ f) (λ a b c d e f g h i j k l m n. refl)
+
+pub placed-pc : (p : ℕ) (f : List ℕ) → length f ≡ 14 → placed (getD f CW 0) p f ≡ set f PC p
+placed-pc p = fourteen (λ f. placed (getD f CW 0) p f ≡ set f PC p) (λ a b c d e f g h i j k l m n. refl)

@@ -1,0 +1,1 @@
+// The crate has no code: its theorems stand in specs/ and proofs/.
