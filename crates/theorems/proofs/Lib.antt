@@ -5,3 +5,4 @@ pub mod RepeatPrimitive
 pub mod RepeatTurn
 pub mod RepeatSingles
 pub mod Repeat
+pub mod RepeatCode
