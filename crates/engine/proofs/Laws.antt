@@ -1,10 +1,12 @@
--- What each return of the code comes to, over plain values.
+-- What each return of a step's code comes to, over plain values.
 use Prim.Native.Nat.{ℕ, zero-le}
 use mathlib.Core.Bool.{Bool, true, false}
 use mathlib.Core.List.{List}
 use mathlib.Core.Path.{_≡_, refl, sym, _∙_}
 use native.Mathlib.Omega.{arith}
+use lib.Dec.{eqb}
 use lib.ListN.{getD}
+use borrow.Author.Tests.{eqb-true, eqb-false}
 use Rattle.sheet.specs.declared.Bus.{Bus}
 use Rattle.sheet.specs.declared.State.{State}
 use Rattle.sheet.specs.declared.Instr.{Instr}
@@ -14,20 +16,24 @@ use Rattle.sheet.specs.World.{World, world}
 use Rattle.sheet.specs.Handler.{run, kept, runBy, nothing}
 use Rattle.sheet.specs.Reading.{Read, known, unknown, scan}
 use Rattle.sheet.specs.FirstByte.{instruction}
-use Rattle.sheet.specs.Contract.{exec, seen, report, reportOf}
+use Rattle.sheet.specs.Contract.{stops, exec, seen, report, reportOf}
 use Rattle.sheet.specs.Step.{fits, sound, source, codeByte, stepping, counted, decoded, awake, stepBy, step, stepReport}
 use Rattle.answers.specs.declared.Decoded.{Decoded}
 use Rattle.answers.specs.declared.Decoded.the-variants.{Known, Unknown}
 use Rattle.answers.specs.Answer.{answerOf, Decodes}
 use Rattle.calls.specs.Calls.{checkNumber}
 use Rattle.stepper.specs.Proceeds.{Proceeds}
-use Rattle.engine.specs.Steps.{Advances, Steps}
+use Rattle.engine.specs.declared.Advanced.{Advanced}
+use Rattle.engine.specs.Steps.{refusedAt, Advances, Steps}
+
+never : true ≡ false → ⊥
+never e = let z : _≡_ {A = ℕ} 0 1 = cc in omega arith
 
 reads-known : (r : Read Instr) (i : Instr) (n : ℕ) → answerOf r ≡ Known i n → r ≡ known i n
 reads-known (known j m) i n e = let a : _≡_ {A = Instr} j i = cc in let b : _≡_ {A = ℕ} m n = cc in rw (a, b)
 reads-known (unknown k m) i n e = absurd (let z : _≡_ {A = ℕ} 0 1 = cc in omega arith)
 
-reads-unknown : (w : World) (r : Read Instr) (k : ℕ) → answerOf r ≡ Unknown k → reportOf w (seen (decoded kept r w)) ≡ report k w nothing
+reads-unknown : (w : World) (r : Read Instr) (k : ℕ) → answerOf r ≡ Unknown k → seen (decoded kept r w) ≡ stops k
 unfolding decoded
 reads-unknown w (known j m) k e = absurd (let z : _≡_ {A = ℕ} 0 1 = cc in omega arith)
 reads-unknown w (unknown j m) k e = let a : _≡_ {A = ℕ} j k = cc in rw a
@@ -37,20 +43,29 @@ unfolding awake decoded
 awake-known w i n h e = rw (h, e)
 
 module _ (s : State) (ram rom tape log : List ℕ) where
-  pub advances-halted : s .halted ≡ true → Advances s ram rom tape log 8 s ram log nothing
+  refused-so : (k : ℕ) → seen (awake kept (world s ram rom tape log)) ≡ stops k → Advances s ram rom tape log false k s ram log nothing
+  refused-so k e = record { most = zero-le; is = e; zero = λ q. cc; same = λ q. (refl, refl, refl, refl) }
+
+  pub advances-halted : (a : Advanced) → s .halted ≡ true → a ≡ refusedAt s 8 → Advances s ram rom tape log (a .done) (a .number) (a .state) ram log (a .bus)
   unfolding awake
-  advances-halted h = record { most = zero-le; is = rw h }
+  advances-halted a h e = rw e (refused-so 8 (rw h))
 
   module _ (ps pc : ℕ) (a : ps ≡ getD (s .file) PS 0) (b : pc ≡ getD (s .file) PC 0) (h : s .halted ≡ false) (r : Decoded) (d : Decodes instruction (codeByte ram rom ps pc) 0 r) where
-    pub advances-unknown : (k : ℕ) → r ≡ Unknown k → Advances s ram rom tape log k s ram log nothing
+    pub advances-unknown : (k : ℕ) (x : Advanced) → r ≡ Unknown k → x ≡ refusedAt s k → Advances s ram rom tape log (x .done) (x .number) (x .state) ram log (x .bus)
     unfolding awake
-    advances-unknown k e = record { most = zero-le; is = rw h (reads-unknown _ _ k (rw (a, b) at (d .is) ∙ e)) }
+    advances-unknown k x e f = rw f (refused-so k (rw h (reads-unknown _ _ k (rw (a, b) at (d .is) ∙ e))))
 
     pub advances-known : (i : Instr) (size number : ℕ) (s′ : State) (ram′ log′ : List ℕ) (n : Bus) → r ≡ Known i size
-        → Proceeds i size s ram rom tape log number s′ ram′ log′ n → Advances s ram rom tape log number s′ ram′ log′ n
+        → Proceeds i size s ram rom tape log number s′ ram′ log′ n → Advances s ram rom tape log (eqb number 0) number s′ ram′ log′ n
     unfolding exec run
-    advances-known i size number s′ ram′ log′ n e p =
-        record { most = p .most; is = rw (awake-known (world s ram rom tape log) i size h (reads-known _ i size (rw (a, b) at (d .is) ∙ e))) (p .is h) }
+    advances-known i size number s′ ram′ log′ n e p = go (eqb number 0) refl
+      where
+        known-at : awake kept (world s ram rom tape log) ≡ runBy kept (stepping i size) (counted (world s ram rom tape log))
+        known-at = awake-known (world s ram rom tape log) i size h (reads-known _ i size (rw (a, b) at (d .is) ∙ e))
+
+        go : (t : Bool) → eqb number 0 ≡ t → Advances s ram rom tape log t number s′ ram′ log′ n
+        go true q = let z = eqb-true number 0 q in record { most = p .most; is = rw known-at (p .done z h .is); zero = λ t. z; same = λ t. absurd (never t) }
+        go false q = let z = eqb-false number 0 q in record { most = p .most; is = rw known-at (p .stop z h .is); zero = λ t. cc; same = λ t. p .same z }
 
 -- what a step reports, by what its checks come to
 report-by : (w : World) (f g : Bool) → fits w ≡ f → sound w ≡ g
@@ -59,6 +74,22 @@ unfolding stepReport step stepBy
 report-by w true true a b = rw (a, b)
 report-by w true false a b = rw (a, b)
 report-by w false g a b = rw a
+
+-- what an instruction reports, by whether it is done
+report-advanced : (s : State) (ram rom tape log : List ℕ) (done : Bool) (number : ℕ) (s′ : State) (ram′ log′ : List ℕ) (n : Bus)
+    → Advances s ram rom tape log done number s′ ram′ log′ n
+    → reportOf (world s ram rom tape log) (seen (awake kept (world s ram rom tape log))) ≡ report number (world s′ ram′ rom tape log′) n
+report-advanced s ram rom tape log true number s′ ram′ log′ n p = rw (p .is, p .zero refl)
+report-advanced s ram rom tape log false number s′ ram′ log′ n p = let (a, b, c, d) = p .same refl in rw (p .is, a, b, c, d)
+
+-- both checks passed where their number is 0
+pub passed : (w : World) → checkNumber w ≡ 0 → (fits w ≡ true) × (sound w ≡ true)
+passed w z = go (fits w) (sound w) refl refl
+  where
+    go : (f g : Bool) → fits w ≡ f → sound w ≡ g → (fits w ≡ true) × (sound w ≡ true)
+    go true true a b = (a, b)
+    go true false a b = absurd (let x : _≡_ {A = ℕ} 2 0 = rw (a, b) at z in omega arith)
+    go false g a b = absurd (let x : _≡_ {A = ℕ} 1 0 = rw a at z in omega arith)
 
 module _ (s : State) (ram rom tape log : List ℕ) (number : ℕ) (e : number ≡ checkNumber (world s ram rom tape log)) where
   w : World
@@ -73,15 +104,8 @@ module _ (s : State) (ram rom tape log : List ℕ) (number : ℕ) (e : number �
       go true false a b = report-by w true false a b ∙ rw (e, a, b)
       go false g a b = report-by w false g a b ∙ rw (e, a)
 
-  passed : number ≡ 0 → (fits w ≡ true) × (sound w ≡ true)
+  pub steps : (done : Bool) (r : ℕ) (s′ : State) (ram′ log′ : List ℕ) (n : Bus) → number ≡ 0 → Advances s ram rom tape log done r s′ ram′ log′ n → Steps s ram rom tape log r s′ ram′ log′ n
   unfolding w
-  passed z = go (fits w) (sound w) refl refl
-    where
-      go : (f g : Bool) → fits w ≡ f → sound w ≡ g → (fits w ≡ true) × (sound w ≡ true)
-      go true true a b = (a, b)
-      go true false a b = absurd (let x : _≡_ {A = ℕ} 0 2 = rw (a, b) at (sym z ∙ e) in omega arith)
-      go false g a b = absurd (let x : _≡_ {A = ℕ} 0 1 = rw a at (sym z ∙ e) in omega arith)
-
-  pub steps : (r : ℕ) (s′ : State) (ram′ log′ : List ℕ) (n : Bus) → number ≡ 0 → Advances s ram rom tape log r s′ ram′ log′ n → Steps s ram rom tape log r s′ ram′ log′ n
-  unfolding w
-  steps r s′ ram′ log′ n z p = let q = passed z in record { most = p .most; is = report-by w true true (q .0) (q .1) ∙ p .is }
+  steps done r s′ ram′ log′ n z p =
+      let q = passed w (sym e ∙ z) in
+      record { most = p .most; is = report-by w true true (q .0) (q .1) ∙ report-advanced s ram rom tape log done r s′ ram′ log′ n p }

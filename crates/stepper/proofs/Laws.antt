@@ -71,7 +71,13 @@ module _ (i : Instr) (size : ℕ) (s : State) (g ram ram′ rom tape log log′ 
   stops-short z = seq-then-stops _ (ends-flag BRK) (seq-stops _ (refuses z))
 
   pub proceeds-stop : (number ≡ 0 → ⊥) → Proceeds i size s ram rom tape log number s ram′ log′ nothing
-  proceeds-stop z = record { most = zero-le; is = λ h. rw (begun s ram rom tape log q c h, stops-short z .is, p .same z .0, p .same z .1) }
+  proceeds-stop z =
+      record {
+        most = zero-le;
+        done = λ e h. absurd (z e);
+        stop = λ e h. rw (begun s ram rom tape log q c h) (stops-short z);
+        same = λ e. (refl, p .same z .0, p .same z .1, refl);
+      }
 
   module _ (r : ℕ) (s′ : State) (ram″ : List ℕ) (m : Bus) (f : Settles (traced && not trapped) halts q′ n g ram′ rom r s′ ram″ m) where
     steps : number ≡ 0 → Ends Unit (stepping i size) (world (stateOf (s .file) false q) ram rom tape log) tt (world (stateOf (f .file) (f .halted) q′) ram″ rom tape log′) (n ⊕ f .last)
@@ -79,7 +85,13 @@ module _ (i : Instr) (size : ℕ) (s : State) (g ram ram′ rom tape log log′ 
     steps z = seq-flag BRK _ (rw (← b) (seq _ (executes z) (f .finish .at q′ tape log′)))
 
     pub proceeds-done : number ≡ 0 → Proceeds i size s ram rom tape log r s′ ram″ log′ m
-    proceeds-done z = record { most = rw (f .sum) (add-le-add (p .most) (f .finish .most)); is = λ h. rw (f .zero, f .state, f .sum, begun s ram rom tape log q c h, steps z .is) }
+    proceeds-done z =
+        record {
+          most = rw (f .sum) (add-le-add (p .most) (f .finish .most));
+          done = λ e h. rw (f .state, f .sum, begun s ram rom tape log q c h) (steps z);
+          stop = λ e h. absurd (e (f .zero));
+          same = λ e. absurd (e (f .zero));
+        }
 
 pub begun-is : (s : State) (k : ℕ) (q : Progress) → k ≡ risen rule (s .count) → q ≡ record { tape = s .tape; log = s .log; count = k } → q ≡ begunAt s
 begun-is s k q e f = rw (f, e)

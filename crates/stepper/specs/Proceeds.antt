@@ -13,8 +13,8 @@ use Rattle.sheet.specs.Registers.{PC}
 use Rattle.sheet.specs.World.{world, stateOf}
 use Rattle.sheet.specs.Execute.{operation}
 use Rattle.sheet.specs.Log.{rule, risen}
-use Rattle.sheet.specs.Handler.{_⊕_}
-use Rattle.sheet.specs.Contract.{exec, Ends, report, reportOf}
+use Rattle.sheet.specs.Handler.{nothing, _⊕_}
+use Rattle.sheet.specs.Contract.{Ends, Stops}
 use Rattle.sheet.specs.Step.{singleStep, stepping, counted}
 use Rattle.execute.specs.Performs.{Performs}
 
@@ -43,4 +43,6 @@ pub record Settles (traced halts : Bool) (q : Progress) (n : Bus) (f ram rom : L
 -- of a state that is not halted
 pub record Proceeds (i : Instr) (size : ℕ) (s : State) (ram rom tape log : List ℕ) (number : ℕ) (s′ : State) (ram′ log′ : List ℕ) (n : Bus) : Type 0 where
   pub most : n .cycles ≤ 1028
-  pub is : s .halted ≡ false → reportOf (world s ram rom tape log) (exec (stepping i size) (counted (world s ram rom tape log))) ≡ report number (world s′ ram′ rom tape log′) n
+  pub done : number ≡ 0 → s .halted ≡ false → Ends Unit (stepping i size) (counted (world s ram rom tape log)) tt (world s′ ram′ rom tape log′) n
+  pub stop : (number ≡ 0 → ⊥) → s .halted ≡ false → Stops Unit (stepping i size) (counted (world s ram rom tape log)) number
+  pub same : (number ≡ 0 → ⊥) → (s′ ≡ s) × (ram′ ≡ ram) × (log′ ≡ log) × (n ≡ nothing)

@@ -1,0 +1,20 @@
+use borrow.Author.Needs.{needs}
+use Rattle.engine.proofs.RunLaws.{runs-refused}
+use Rattle.engine.proofs.run.Statement.{statement}
+use Rattle.engine.proofs.run.Tie as tie
+
+returns : tie.Need-returns
+returns c = search (runs-refused, needs)
+
+pub run-spec : {M : Type 1} → statement M
+run-spec =
+    tie.close
+    (tie.spec
+    (λ c κs. search needs)
+    (λ c. search needs)
+    (λ c. search needs)
+    returns
+    (λ c κs. search needs)
+    (λ c. search needs)
+    (λ c. search needs)
+    (λ c. search needs))
