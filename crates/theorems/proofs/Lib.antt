@@ -6,3 +6,14 @@ pub mod RepeatTurn
 pub mod RepeatSingles
 pub mod Repeat
 pub mod RepeatCode
+pub mod BoundsRules
+pub mod BoundsOperands
+pub mod BoundsGroups
+pub mod BoundsFlow
+pub mod BoundsReading
+pub mod BoundsStep
+pub mod BoundsPrepare
+pub mod Calls
+pub mod CallsStandIns
+pub mod Runs
+pub mod RunsStandIns

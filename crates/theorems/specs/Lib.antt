@@ -1,3 +1,6 @@
 pub mod Repeat
 pub mod RepeatEngines
 pub mod RepeatCode
+pub mod Bounds
+pub mod Runs
+pub mod StandIns

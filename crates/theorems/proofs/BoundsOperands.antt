@@ -1,0 +1,87 @@
+-- Bounds on what instructions are made of: operands, the stack, traps.
+use Prim.Native.Nat.{ℕ, _+_, _*_, _%_}
+use mathlib.Core.Path.{_≡_}
+use mathlib.Core.Bool.{Bool}
+use native.Mathlib.Omega.{arith}
+use lib.Dec.{lit≤}
+use Rattle.sheet.specs.declared.Address.{Address}
+use Rattle.sheet.specs.declared.Place.{Place}
+use Rattle.sheet.specs.declared.Place.the-variants.{Register, Memory}
+use Rattle.sheet.specs.declared.Source.{Source}
+use Rattle.sheet.specs.declared.Source.the-variants.{Held, Immediate}
+use Rattle.sheet.specs.declared.Spot.{Spot}
+use Rattle.sheet.specs.declared.Spot.the-variants.{InRegister, InMemory}
+use Rattle.sheet.specs.declared.Amount.{Amount}
+use Rattle.sheet.specs.declared.Amount.the-variants.{InCl, Given}
+use Rattle.sheet.specs.Operand.{regValue, setReg, locate, fetch, deposit, valueAt, sourceValue, pairAt, amountOf}
+use Rattle.sheet.specs.Traps.{push, pop, save, trap}
+use Rattle.theorems.proofs.BoundsRules.{Most, seq, up, of-pure, of-registers, of-set, of-psw, of-flags, of-peek, of-poke, of-peek-even}
+
+-- ---- operands
+
+pub of-regValue : (w : Bool) (n : ℕ) → Most ℕ (regValue w n) 0
+unfolding regValue
+of-regValue w n = seq of-registers λ r. of-pure
+
+pub of-setReg : (w : Bool) (n v : ℕ) → Most Unit (setReg w n v) 0
+unfolding setReg
+of-setReg w n v = seq of-registers λ r. of-set
+
+pub of-locate : (p : Place) → Most Spot (locate p) 0
+unfolding locate
+of-locate (Register n) = of-pure
+of-locate (Memory a) = seq of-registers λ r. of-pure
+
+pub of-fetch : (w : Bool) (s : Spot) → Most ℕ (fetch w s) 2
+unfolding fetch
+of-fetch w (InRegister n) = up (lit≤ tt) (of-regValue w n)
+of-fetch w (InMemory g o) = of-peek
+
+pub of-deposit : (w : Bool) (s : Spot) (v : ℕ) → Most Unit (deposit w s v) 2
+unfolding deposit
+of-deposit w (InRegister n) v = up (lit≤ tt) (of-setReg w n v)
+of-deposit w (InMemory g o) v = of-poke
+
+pub of-valueAt : (w : Bool) (p : Place) → Most ℕ (valueAt w p) 2
+unfolding valueAt
+of-valueAt w p = seq (of-locate p) λ s. of-fetch w s
+
+pub of-sourceValue : (w : Bool) (p : Source) → Most ℕ (sourceValue w p) 2
+unfolding sourceValue
+of-sourceValue w (Held p) = of-valueAt w p
+of-sourceValue w (Immediate v) = up (lit≤ tt) of-pure
+
+pub of-pairAt : (a : Address) → Most (ℕ × ℕ) (pairAt a) 4
+unfolding pairAt
+of-pairAt a = seq of-registers λ r. seq of-peek λ x. seq of-peek λ y. of-pure
+
+pub of-amountOf : (a : Amount) → Most ℕ (amountOf a) 0
+unfolding amountOf
+of-amountOf InCl = of-regValue _ _
+of-amountOf (Given n) = of-pure
+
+-- ---- the stack
+
+pub of-push : (v : ℕ) → Most Unit (push v) 2
+unfolding push
+of-push v = seq of-registers λ r. seq of-set λ _. of-poke
+
+pub of-pop : Most ℕ pop 2
+unfolding pop
+of-pop = seq of-registers λ r. seq of-peek λ v. seq of-set λ _. of-pure
+
+-- ---- traps: both words of a vector lie at even addresses
+
+pub of-save : Most Unit save 6
+unfolding save
+of-save = seq of-psw λ x. seq (of-push x) λ _. seq of-flags λ _. seq of-registers λ r. seq (of-push _) λ _. of-push _
+
+even-first : (v : ℕ) → 4 * v % 2 ≡ 0
+even-first v = omega arith
+
+even-second : (v : ℕ) → (4 * v + 2) % 2 ≡ 0
+even-second v = omega arith
+
+pub of-trap : (v : ℕ) → Most Unit (trap v) 8
+unfolding trap
+of-trap v = seq (of-peek-even (even-first v)) λ pc. seq (of-peek-even (even-second v)) λ ps. seq of-save λ _. seq of-set λ _. of-set

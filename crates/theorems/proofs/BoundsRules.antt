@@ -1,0 +1,176 @@
+-- A bound on the bus cycles of a tree from any world, with the refusals that it may come to: one rule for each node and each way of joining trees.
+use Prim.Native.Nat.{ℕ, zero, suc, _+_, _*_, _%_, _≤_}
+use mathlib.Core.Path.{_≡_}
+use mathlib.Core.Bool.{Bool, true, false}
+use mathlib.Core.List.{List, []}
+use native.Mathlib.Nat.{le-refl, zero-mul, suc-mul, add-comm}
+use native.Mathlib.Omega.{arith}
+use lib.ListN.{length}
+use lib.Dec.{leb, lit≤}
+use Rattle.sheet.specs.declared.Bus.{Bus}
+use Rattle.sheet.specs.Width.{pick, bytesOf}
+use Rattle.sheet.specs.Psw.{Flag, Effect}
+use Rattle.sheet.specs.Registers.{File, fileOf}
+use Rattle.sheet.specs.Memory.{busCycles}
+use Rattle.sheet.specs.World.{World}
+use Rattle.sheet.specs.Act.{Act, pure, get, flags, _>>=_, registers, _≔_, flag, psw, peek, poke, inp, out, halted, loop}
+use Rattle.sheet.specs.Handler.{Access, short, through, recording, inputs, outputs, ported, done, then, takes, gives, run, runBy, tally}
+use Rattle.sheet.specs.Contract.{Seen, stops, ends, seen, exec}
+use Rattle.sheet.proofs.Rules.{plus, andThen, exec-bind}
+
+-- an end in at most n cycles, or one of the refusals that a port access gives, 5 and 6
+pub data Within {A : Type 0} (n : ℕ) : Seen A → Type 0 where
+  within : {a : A} {w : World} {m : Bus} → m .cycles ≤ n → Within n (ends a w m)
+  short-of : {k : ℕ} → 5 ≤ k → k ≤ 6 → Within n (stops k)
+
+-- so from every world
+pub record Most (A : Type 0) (p : Act A) (n : ℕ) : Type 0 where
+  pub at : (w : World) → Within n (exec p w)
+
+-- ---- joining
+
+plus-within : {A : Type 0} (m : Bus) (a b : ℕ) (e : Seen A) → m .cycles ≤ a → Within b e → Within (a + b) (plus m e)
+plus-within m a b (ends x w n) h (within g) = let q : m .cycles + n .cycles ≤ a + b = omega arith in within q
+plus-within m a b (stops k) h (short-of f g) = short-of f g
+
+andThen-within : {A B : Type 0} (a b : ℕ) (e : Seen A) (f : A → World → Seen B) → Within a e → ((x : A) (v : World) → Within b (f x v)) → Within (a + b) (andThen e f)
+andThen-within a b (ends x v n) f (within h) g = plus-within n a b (f x v) h (g x v)
+andThen-within a b (stops k) f (short-of h i) g = short-of h i
+
+-- one tree after another: the bounds add up
+pub seq : {A B : Type 0} {p : Act A} {f : A → Act B} {a b : ℕ} → Most A p a → ((x : A) → Most B (f x) b) → Most B (p >>= f) (a + b)
+seq {p = p} {f = f} {a = a} {b = b} h g =
+    record { at = λ w. rw (exec-bind p f w) (andThen-within a b (exec p w) (λ x v. exec (f x) v) (h .at w) (λ x v. g x .at v)) }
+
+wider : {A : Type 0} (a b : ℕ) (e : Seen A) → a ≤ b → Within a e → Within b e
+wider a b (ends x w n) h (within g) = let q : n .cycles ≤ b = omega arith in within q
+wider a b (stops k) h (short-of f g) = short-of f g
+
+-- a bound is also any higher one
+pub up : {A : Type 0} {p : Act A} {a b : ℕ} → a ≤ b → Most A p a → Most A p b
+up {p = p} {a = a} {b = b} h m = record { at = λ w. wider a b (exec p w) h (m .at w) }
+
+-- whichever of two trees is chosen
+pub either-way : {A : Type 0} {p q : Act A} {n : ℕ} (c : Bool) → Most A p n → Most A q n → Most A (pick c p q) n
+either-way true x y = x
+either-way false x y = y
+
+-- ---- nodes
+
+pub of-pure : {A : Type 0} {a : A} → Most A (pure a) 0
+unfolding exec run runBy tally
+of-pure = record { at = λ w. within (le-refl 0) }
+
+pub of-registers : Most File registers 0
+unfolding exec run runBy tally
+of-registers = record { at = λ w. within (le-refl 0) }
+
+-- what follows may rest on what the registers hold
+pub of-get : {A : Type 0} {k : File → Act A} {n : ℕ} → ((r : File) → Most A (k r) n) → Most A (get k) n
+unfolding exec run runBy
+of-get h = record { at = λ w. h (fileOf (w .state .file)) .at w }
+
+pub of-set : {n v : ℕ} → Most Unit (n ≔ v) 0
+unfolding exec run runBy tally
+of-set = record { at = λ w. within (le-refl 0) }
+
+pub of-flag : {f : Flag} → Most Bool (flag f) 0
+unfolding exec run runBy tally
+of-flag = record { at = λ w. within (le-refl 0) }
+
+pub of-psw : {b : Bool} → Most ℕ (psw b) 0
+unfolding exec run runBy tally
+of-psw = record { at = λ w. within (le-refl 0) }
+
+pub of-flags : {c : Flag → Effect} → Most Unit (flags c (pure tt)) 0
+unfolding exec run runBy tally
+of-flags = record { at = λ w. within (le-refl 0) }
+
+pub of-halted : {b : Bool} → Most Unit (halted b) 0
+unfolding exec run runBy tally
+of-halted = record { at = λ w. within (le-refl 0) }
+
+-- an access takes at most 2 cycles, one of a byte or at an even address 1
+pub cycles-top : (b : Bool) (o : ℕ) → busCycles b o + 0 ≤ 2
+unfolding busCycles
+cycles-top false o = omega arith
+cycles-top true o = omega arith
+
+pub of-peek : {b : Bool} {g o : ℕ} → Most ℕ (peek b g o) 2
+unfolding exec run runBy tally
+of-peek {b} {g} {o} = record { at = λ w. within (cycles-top b o) }
+
+pub of-poke : {b : Bool} {g o v : ℕ} → Most Unit (poke b g o v) 2
+unfolding exec run runBy tally
+of-poke {b} {g} {o} {v} = record { at = λ w. within (cycles-top b o) }
+
+pub of-peek-byte : {g o : ℕ} → Most ℕ (peek false g o) 1
+unfolding exec run runBy tally busCycles
+of-peek-byte = record { at = λ w. within (le-refl 1) }
+
+pub of-poke-byte : {g o v : ℕ} → Most Unit (poke false g o v) 1
+unfolding exec run runBy tally busCycles
+of-poke-byte = record { at = λ w. within (le-refl 1) }
+
+even-cycles : (o : ℕ) → o % 2 ≡ 0 → busCycles true o + 0 ≤ 1
+unfolding busCycles
+even-cycles o e = omega arith
+
+pub of-peek-even : {g o : ℕ} → o % 2 ≡ 0 → Most ℕ (peek true g o) 1
+unfolding exec run runBy tally
+of-peek-even {g} {o} e = record { at = λ w. within (even-cycles o e) }
+
+-- ---- ports
+
+-- an access goes through, or is refused with 5 or 6
+data Passes : Access → Type 0 where
+  passes : {v : ℕ} {w : World} → Passes (through v w)
+  fails : {k : ℕ} → 5 ≤ k → k ≤ 6 → Passes (short k)
+
+either-passes : {r s : Access} (c : Bool) → Passes r → Passes s → Passes (pick c r s)
+either-passes true x y = x
+either-passes false x y = y
+
+short-five : Passes (short 5)
+short-five = fails (lit≤ tt) (lit≤ tt)
+
+short-six : Passes (short 6)
+short-six = fails (lit≤ tt) (lit≤ tt)
+
+recording-passes : (w : World) (v m : ℕ) (b : List ℕ) → Passes (recording w v m b)
+unfolding recording
+recording-passes w v m b = either-passes (leb (w .state .log + length b) (length (w .log))) passes short-six
+
+inputs-passes : (b : Bool) (n : ℕ) (w : World) → Passes (inputs b n w)
+unfolding inputs
+inputs-passes b n w = either-passes (leb (w .state .tape + bytesOf b) (length (w .tape))) (recording-passes _ _ _ _) short-five
+
+outputs-passes : (b : Bool) (n v : ℕ) (w : World) → Passes (outputs b n v w)
+unfolding outputs
+outputs-passes b n v w = recording-passes _ _ _ _
+
+inp-within : (b : Bool) (n : ℕ) (r : Access) → Passes r → Within {A = ℕ} 2 (seen (ported r (λ v w. then (takes b n v) (done v w []))))
+unfolding tally
+inp-within b n (through v w) passes = within (cycles-top b n)
+inp-within b n (short k) (fails f g) = short-of f g
+
+out-within : (b : Bool) (n v : ℕ) (r : Access) → Passes r → Within {A = Unit {0}} 2 (seen (ported r (λ x w. then (gives b n v) (done tt w []))))
+unfolding tally
+out-within b n v (through x w) passes = within (cycles-top b n)
+out-within b n v (short k) (fails f g) = short-of f g
+
+pub of-inp : {b : Bool} {n : ℕ} → Most ℕ (inp b n) 2
+unfolding exec run runBy
+of-inp {b} {n} = record { at = λ w. inp-within b n (inputs b n w) (inputs-passes b n w) }
+
+pub of-out : {b : Bool} {n v : ℕ} → Most Unit (out b n v) 2
+unfolding exec run runBy
+of-out {b} {n} {v} = record { at = λ w. out-within b n v (outputs b n v w) (outputs-passes b n v w) }
+
+-- ---- repeats
+
+-- the body, k times
+pub of-loop : {A : Type 0} (body : ℕ → A → Act A) (c : ℕ) → ((i : ℕ) (a : A) → Most A (body i a) c) → (k i : ℕ) (a : A) → Most A (loop body k i a) (k * c)
+unfolding loop
+of-loop body c h zero i a = rw (zero-mul c) of-pure
+of-loop body c h (suc k) i a = rw (suc-mul k c, add-comm (k * c) c) (seq (h i a) (λ b. of-loop body c h k (i + 1) b))

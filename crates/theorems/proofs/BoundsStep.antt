@@ -1,0 +1,150 @@
+-- No step makes more than 1,028 bus cycles and no interrupt call more than 8; and the numbers that a refusal can have.
+use Prim.Native.Nat.{ℕ, _+_, _-_, _≤_}
+use mathlib.Core.Path.{_≡_, refl}
+use mathlib.Core.Bool.{Bool, true, false, not, _&&_}
+use mathlib.Core.List.{List}
+use lib.ListN.{length}
+use native.Mathlib.Omega.{arith}
+use lib.Dec.{eqb, leb, ltb, lit≤}
+use borrow.Author.Tests.{eqb-true, eqb-false}
+use Rattle.sheet.specs.declared.Bus.{Bus}
+use Rattle.sheet.specs.declared.Instr.{Instr}
+use Rattle.sheet.specs.declared.Instr.the-variants.{Transfers, Calculates, Multiplies, Converts, Shifts, Bits, Decimals, Fields, Stacks, Branches, Tests, Interrupts, Blocks, Ports, Controls}
+use Rattle.sheet.specs.Width.{pick}
+use Rattle.sheet.specs.Psw.{IE, flagOf}
+use Rattle.sheet.specs.Registers.{PS, PC, fileOf}
+use Rattle.sheet.specs.Memory.{byteAt}
+use Rattle.sheet.specs.World.{World, pswOf}
+use Rattle.sheet.specs.Handler.{Event, done, kept, run, runBy, tally}
+use Rattle.sheet.specs.Contract.{Seen, stops, ends, seen, exec}
+use Rattle.sheet.specs.Reading.{Read, known, unknown, scan}
+use Rattle.sheet.specs.FirstByte.{instruction}
+use Rattle.sheet.specs.Execute.{operation, execute}
+use Rattle.sheet.specs.Step.{fits, sound, refusal, codeAt, source, interrupting, singleStep, stepping, counted, decoded, awake, stepBy, step, interruptBy, interrupt}
+use Rattle.sheet.specs.Act.{_>>=_}
+use Rattle.sheet.specs.Traps.{push, save, trap}
+use Rattle.theorems.specs.Bounds.{Bytes, stepTop, interruptTop, stepRefusals, interruptRefusals, Among, first, later, Comes, ends-in, stops-by}
+use Rattle.theorems.proofs.BoundsRules.{Within, within, short-of, Most, seq, up, of-pure, of-registers, of-set, of-flag, of-halted}
+use Rattle.theorems.proofs.BoundsOperands.{of-trap}
+use Rattle.theorems.proofs.BoundsGroups.{of-transfer, of-calculate, of-untrapped, of-multiply, of-convert, of-shift, of-bits, of-decimal, of-field}
+use Rattle.theorems.proofs.BoundsFlow.{of-stack, of-branch, of-conditional, of-interrupts, of-block, of-ports, of-control}
+use Rattle.theorems.proofs.BoundsReading.{Fine, Scanned, read, unread, scanned, of-instruction}
+
+-- ---- an instruction
+
+of-operation : (i : Instr) → Fine i → (start : ℕ) → Most Bool (operation i start) 1020
+unfolding operation
+of-operation (Transfers i) h start = up (lit≤ tt) (of-untrapped (of-transfer i))
+of-operation (Calculates i) h start = up (lit≤ tt) (of-untrapped (of-calculate i))
+of-operation (Multiplies i) h start = up (lit≤ tt) (of-multiply i)
+of-operation (Converts i) h start = up (lit≤ tt) (of-untrapped (of-convert i))
+of-operation (Shifts k w to places) h start = up (lit≤ tt) (of-untrapped (of-shift k w to places))
+of-operation (Bits op w to number) h start = up (lit≤ tt) (of-untrapped (of-bits op w to number))
+of-operation (Decimals i) h start = up (lit≤ tt) (of-untrapped (of-decimal i))
+of-operation (Fields i) h start = up (lit≤ tt) (of-untrapped (of-field i))
+of-operation (Stacks i) h start = of-untrapped (of-stack i h)
+of-operation (Branches i) h start = up (lit≤ tt) (of-untrapped (of-branch i))
+of-operation (Tests i) h start = up (lit≤ tt) (of-untrapped (of-conditional i))
+of-operation (Interrupts i) h start = up (lit≤ tt) (of-interrupts i)
+of-operation (Blocks k w seg q) h start = up (lit≤ tt) (of-untrapped (of-block k w seg q start))
+of-operation (Ports i) h start = up (lit≤ tt) (of-untrapped (of-ports i))
+of-operation (Controls i) h start = up (lit≤ tt) (of-untrapped (of-control i))
+
+of-execute : (i : Instr) → Fine i → (n : ℕ) → Most Bool (execute i n) 1020
+unfolding execute
+of-execute i h n = seq of-registers λ r. seq of-set λ _. of-operation i h _
+
+of-interrupting : (v : ℕ) → Most Unit (interrupting v) interruptTop
+unfolding interrupting
+of-interrupting v = seq (of-trap v) λ _. of-halted
+
+of-singleStep : (b : Bool) → Most Unit (singleStep b) 8
+unfolding singleStep
+of-singleStep false = up (lit≤ tt) of-pure
+of-singleStep true = of-interrupting 1
+
+of-stepping : (i : Instr) → Fine i → (n : ℕ) → Most Unit (stepping i n) stepTop
+unfolding stepping
+of-stepping i h n = seq of-flag λ traced. seq (of-execute i h n) λ trapped. of-singleStep _
+
+-- ---- the bytes of the instruction
+
+at-most : (c : Bool) (a b n : ℕ) → a ≤ n → b ≤ n → pick c a b ≤ n
+at-most true a b n h g = h
+at-most false a b n h g = g
+
+byte-top : (ram rom : List ℕ) → Bytes ram → Bytes rom → (a : ℕ) → byteAt ram rom a ≤ 255
+unfolding byteAt
+byte-top ram rom h g a = at-most (ltb a (length ram)) _ _ 255 (h a) (at-most (leb 1048576 (a + length rom)) _ _ 255 (g (a + length rom - 1048576)) (lit≤ tt))
+
+reads-fine : (w : World) → Bytes (w .ram) → Bytes (w .rom) → Scanned Fine (scan instruction (source w) 0)
+reads-fine w h g = scanned instruction of-instruction (source w) (λ j. byte-top (w .ram) (w .rom) h g (codeAt (fileOf (w .state .file) PS) (fileOf (w .state .file) PC) j)) 0
+
+-- ---- the calls
+
+one-of-two : (k n : ℕ) → n ≤ k → k ≤ n + 1 → (P : ℕ → Type 0) → P n → P (n + 1) → P k
+one-of-two k n h g P x y = go (eqb k n) refl
+  where
+    go : (c : Bool) → eqb k n ≡ c → P k
+    go true e = rw (eqb-true k n e) x
+    go false e = let d = eqb-false k n e in let q : k ≡ n + 1 = omega arith in rw q y
+
+as-read : (k : ℕ) → 3 ≤ k → k ≤ 4 → Among k stepRefusals
+as-read k h g = one-of-two k 3 h g (λ n. Among n stepRefusals) (later (later (later first))) (later (later (later (later first))))
+
+as-ported : (k : ℕ) → 5 ≤ k → k ≤ 6 → Among k stepRefusals
+as-ported k h g =
+    one-of-two k 5 h g (λ n. Among n stepRefusals) (later (later (later (later (later first))))) (later (later (later (later (later (later first))))))
+
+within-step : (e : Seen Unit) → Within stepTop e → Comes stepTop stepRefusals e
+within-step (ends tt w m) (within h) = ends-in h
+within-step (stops k) (short-of f g) = stops-by (as-ported k f g)
+
+-- every step, of any machine over memory of bytes
+pub step-comes : (w : World) → Bytes (w .ram) → Bytes (w .rom) → Comes stepTop stepRefusals (seen (step w))
+unfolding step stepBy awake decoded exec run
+step-comes w h g = go (fits w) (sound w) (w .state .halted) (scan instruction (source w) 0) (reads-fine w h g)
+  where
+    go : (f s t : Bool) (r : Read Instr) → Scanned Fine r
+        → Comes stepTop stepRefusals (seen (pick f (pick s (pick t (refusal 8) (decoded kept r w)) (refusal 2)) (refusal 1)))
+    go true true false (known i n) (read q) = within-step _ (of-stepping i q n .at (counted w))
+    go true true false (unknown k n) (unread a b) = stops-by (as-read k a b)
+    go true true true r q = stops-by (later (later first))
+    go true false t r q = stops-by (later first)
+    go false s t r q = stops-by first
+
+-- ---- an interrupt call
+
+-- a trap from outside is never refused
+interrupting-ends : (v : ℕ) (w : World) → (x : World) × (m : Bus) × (exec (interrupting v) w ≡ ends tt x m)
+unfolding interrupting trap save push _>>=_ exec run runBy
+interrupting-ends v w = (_, _, refl)
+
+ends-most : (n : ℕ) (x : World) (m : Bus) → Within {A = Unit {0}} n (ends tt x m) → m .cycles ≤ n
+ends-most n x m (within h) = h
+
+pub interrupt-comes : (v : ℕ) (maskable : Bool) (w : World) → Comes interruptTop interruptRefusals (seen (interrupt v maskable w))
+unfolding interrupt interruptBy exec run
+interrupt-comes v maskable w = go (fits w) (sound w) (maskable && not (flagOf (pswOf (w .state)) IE)) (interrupting-ends v w)
+  where
+    go : (f s t : Bool) → (x : World) × (m : Bus) × (exec (interrupting v) w ≡ ends tt x m)
+        → Comes interruptTop interruptRefusals (seen (pick f (pick s (pick t (refusal 7) (run (interrupting v) w)) (refusal 2)) (refusal 1)))
+    go true true false q = rw (q .2) (ends-in (ends-most 8 _ _ (rw (q .2) at (of-interrupting v .at w))))
+    go true true true q = stops-by (later (later first))
+    go true false t q = stops-by (later first)
+    go false s t q = stops-by first
+
+-- ---- in one line each
+
+no-ends : {k : ℕ} {w : World} {m : Bus} → _≡_ {A = Seen Unit} (stops k) (ends tt w m) → ⊥
+no-ends e = let z : _≡_ {A = ℕ} 0 1 = cc in omega arith
+
+same-bus : {n : ℕ} {refusals : List ℕ} (e : Seen Unit) → Comes n refusals e → (v : World) (m : Bus) → e ≡ ends tt v m → m .cycles ≤ n
+same-bus (ends tt w b) (ends-in h) v m q = let z : b ≡ m = cc in rw (← z) h
+same-bus (stops k) (stops-by h) v m q = absurd (no-ends q)
+
+pub at-most-1028 : (w v : World) (t : List Event) → Bytes (w .ram) → Bytes (w .rom) → step w ≡ done tt v t → tally t .cycles ≤ stepTop
+at-most-1028 w v t h g e = same-bus (seen (step w)) (step-comes w h g) v (tally t) (rw e)
+
+pub at-most-8 : (vector : ℕ) (maskable : Bool) (w v : World) (t : List Event) → interrupt vector maskable w ≡ done tt v t → tally t .cycles ≤ interruptTop
+at-most-8 vector maskable w v t e = same-bus (seen (interrupt vector maskable w)) (interrupt-comes vector maskable w) v (tally t) (rw e)

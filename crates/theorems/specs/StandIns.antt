@@ -1,0 +1,78 @@
+-- Engines, by what they report, and what it means that they keep the promises of step and of run.
+use Prim.Native.Nat.{ℕ, _≤_}
+use mathlib.Core.Bool.{Bool, true, false, _&&_}
+use mathlib.Core.List.{List, [], _∷_}
+use mathlib.Core.Path.{_≡_}
+use lib.ListN.{length}
+use lib.Dec.{eqb, leb}
+use Rattle.sheet.specs.declared.Bus.{Bus}
+use Rattle.sheet.specs.World.{World, world}
+use Rattle.sheet.specs.Contract.{Report, report}
+use Rattle.sheet.specs.Step.{stepReport}
+use Rattle.sheet.specs.Run.{runs, RunReport, runReport, ranReport}
+
+-- the numbers of a buffer are at most n
+abbrev pub every : ℕ → List ℕ → Bool
+every n [] = true
+every n (x ∷ l) = leb x n && every n l
+
+-- what code can be lent: fourteen words, a u32 and two usize numbers, and buffers of bytes
+abbrev pub lendable : World → Bool
+lendable w =
+    eqb (length (w .state .file)) 14
+    && (every 65535 (w .state .file)
+    && (leb (w .state .count) 4294967295
+    && (leb (w .state .tape) 18446744073709551615
+    && (leb (w .state .log) 18446744073709551615 && (every 255 (w .ram) && (every 255 (w .rom) && (every 255 (w .tape) && every 255 (w .log))))))))
+
+-- an engine does what step promises, what run promises
+abbrev pub MeetsStep : (World → Report) → Type 0
+MeetsStep engine = (w : World) → lendable w ≡ true → stepReport w ≡ engine w
+
+abbrev pub MeetsRun : (ℕ → World → RunReport) → Type 0
+MeetsRun engine = (budget : ℕ) (w : World) → budget ≤ 65535 → lendable w ≡ true → ranReport (runs budget w) ≡ engine budget w
+
+-- ---- the parts of a report
+
+abbrev pub numberOf : Report → ℕ
+numberOf (report n w b) = n
+
+abbrev pub worldOf : Report → World
+worldOf (report n w b) = w
+
+abbrev pub busOf : Report → Bus
+busOf (report n w b) = b
+
+abbrev pub answerOf : RunReport → ℕ
+answerOf (runReport n w k b) = n
+
+abbrev pub leftBy : RunReport → World
+leftBy (runReport n w k b) = w
+
+abbrev pub stepsOf : RunReport → ℕ
+stepsOf (runReport n w k b) = k
+
+abbrev pub cyclesOf : RunReport → ℕ
+cyclesOf (runReport n w k b) = b .cycles
+
+-- ---- three machines: SUB4S, ADJ4A (document 01's second and first example), and one that is halted
+
+abbrev pub machine : List ℕ → Bool → ℕ → List ℕ → World
+machine file halted count ram = world (record { file = file; halted = halted; tape = 0; log = 0; count = count }) ram [] [] []
+
+abbrev pub subtracting : World
+subtracting =
+    machine (0 ∷ 2 ∷ 0 ∷ 0 ∷ 0 ∷ 0 ∷ 2 ∷ 3 ∷ 0 ∷ 0 ∷ 0 ∷ 0 ∷ 0 ∷ 0xf042 ∷ []) false 0 (0x0f ∷ 0x22 ∷ 0x28 ∷ 0x06 ∷ [])
+
+abbrev pub subtracted : World
+subtracted =
+    machine (0 ∷ 2 ∷ 0 ∷ 0 ∷ 0 ∷ 0 ∷ 2 ∷ 3 ∷ 0 ∷ 0 ∷ 0 ∷ 0 ∷ 2 ∷ 0xf003 ∷ []) false 1 (0x0f ∷ 0x22 ∷ 0x28 ∷ 0x78 ∷ [])
+
+abbrev pub adjusting : World
+adjusting = machine (0xfb ∷ 0 ∷ 0 ∷ 0 ∷ 0 ∷ 0 ∷ 0 ∷ 0 ∷ 0 ∷ 0 ∷ 0 ∷ 0 ∷ 0 ∷ 0xf002 ∷ []) false 0 (0x27 ∷ [])
+
+abbrev pub adjusted : World
+adjusted = machine (0x61 ∷ 0 ∷ 0 ∷ 0 ∷ 0 ∷ 0 ∷ 0 ∷ 0 ∷ 0 ∷ 0 ∷ 0 ∷ 0 ∷ 1 ∷ 0xf013 ∷ []) false 1 (0x27 ∷ [])
+
+abbrev pub asleep : World
+asleep = machine (0 ∷ 0 ∷ 0 ∷ 0 ∷ 0 ∷ 0 ∷ 0 ∷ 0 ∷ 0 ∷ 0 ∷ 0 ∷ 0 ∷ 0 ∷ 0xf002 ∷ []) true 0 (0x90 ∷ [])
