@@ -17,3 +17,6 @@ pub mod Calls
 pub mod CallsStandIns
 pub mod Runs
 pub mod RunsStandIns
+pub mod RepeatExample
+pub mod RepeatWrong
+pub mod RepeatOnce

@@ -46,10 +46,10 @@ not-zero : {O : Type 0} {of : List Event → O} {w v : World} {out : Outcome Uni
 not-zero n (accepts e) h = not-done (sym h ∙ e)
 not-zero n (refuses e) h = let z : _≡_ {A = ℕ} 0 (suc n) = cc in omega arith
 
-record Ready (w : World) : Type 0 where
-  fit : fits w ≡ true
-  good : sound w ≡ true
-  up : w .state .halted ≡ false
+pub record Ready (w : World) : Type 0 where
+  pub fit : fits w ≡ true
+  pub good : sound w ≡ true
+  pub up : w .state .halted ≡ false
 
 -- numbers 1, 2 and 8 were not due
 ready : {O : Type 0} {of : List Event → O} {w v : World} {o : O} → Tells of w (step w) 0 v o → Ready w
@@ -73,7 +73,7 @@ unfolding fits
 fits-lent l e = rw (l .ram-long, l .rom-same) e
 
 -- what is read at PS:PC is what the step does
-turns : (w : World) (i : Block) → Ready w → scan instruction (source w) 0 ≡ known (Blocks (i .kind) (i .word) (i .seg) (i .repeat)) (i .size)
+pub turns : (w : World) (i : Block) → Ready w → scan instruction (source w) 0 ≡ known (Blocks (i .kind) (i .word) (i .seg) (i .repeat)) (i .size)
     → step w ≡ run (stepping (Blocks (i .kind) (i .word) (i .seg) (i .repeat)) (i .size)) (sheet.counted w)
 unfolding step stepBy awake decoded run
 turns w i r e = rw (r .fit, r .good, r .up, e)
@@ -325,7 +325,8 @@ module _ (E : Engine) (F : Faithful E) (i : Block) (w : World) (t : Taken E i w)
       let e = turns v i go (still-read (omega arith) x) in
       let here : v .state .file ≡ placed (reg w CW) (reg w PC) (w .state .file) = rw (sub-zero (reg w CW)) at (x .registers) in
       let made = empty-turn (i .kind) (i .word) (i .seg) (i .repeat) (i .size) (reg w CW) (reg w PC) (sheet.counted v) (w .state .file) (t .whole) here (t .untraced) (t .repeated) (rw z) in
-      let a = answered E F s (e ∙ made .ran .is) in (
+      let is : step v ≡ done tt (made .v) (made .t) = e ∙ made .ran .is in
+      let a = answered E F s is in (
         a .zero-is,
         ap (λ y. y .state .file) (a .world-is) ∙ made .file-is ∙ placed-pc (past i w) (w .state .file) (t .whole),
         ap (λ y. y .ram) (a .world-is) ∙ made .ram-is,
@@ -348,9 +349,24 @@ module _ (E : Engine) (F : Faithful E) (i : Block) (w : World) (t : Taken E i w)
 pub demand3 : (E : Engine) → Faithful E → Demand3 E
 demand3 E F i w t K inside = claimed E F i w t K inside
 
--- and so of the definition
+-- and so of the definition, which answers every step
+pub answers : (steps : World → Outcome Unit) (w : World) → (n : ℕ) × (v : World) × (o : List Event) × Tells accesses w (steps w) n v o
+answers steps w = go (steps w) refl
+  where
+    go : (out : Outcome Unit) → steps w ≡ out → (n : ℕ) × (v : World) × (o : List Event) × Tells accesses w (steps w) n v o
+    go (refused n t) e = (n, w, accesses [], refuses e)
+    go (done a v t) e = (0, v, accesses t, accepts e)
+
 pub definition-faithful : Faithful definition
 definition-faithful = record { step-tells = λ h. h; interrupt-tells = λ h. h; same-shown = λ t t′ e. e }
 
 pub definition-demand3 : Demand3 definition
 definition-demand3 = demand3 definition definition-faithful
+
+-- ---- readings
+
+-- its blocks may be taken as CW elements each: those of the k that are done are among them
+pub blocks-of-cw : (i : Block) (w : World) (a : ℕ) → Kept i w (elements i w) a → Kept i w (reg w CW) a
+blocks-of-cw i w a (own-byte c h e) = own-byte c h e
+blocks-of-cw i w a (source-byte j h s e) = let le = elements-le i w in source-byte j (omega arith) s e
+blocks-of-cw i w a (target-byte j h s e) = let le = elements-le i w in target-byte j (omega arith) s e

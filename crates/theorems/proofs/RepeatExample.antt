@@ -1,0 +1,189 @@
+-- Demand 3 is not empty: a repeated move of three bytes, F3 2E A4, with an interrupt after its first step whose handler sets
+-- CY and returns. The whole interleaving is computed.
+use Prim.Native.Nat.{ℕ, zero, suc, _<_}
+use mathlib.Core.Path.{_≡_, refl, ap, subst, _∙_}
+use mathlib.Core.Bool.{true, false}
+use mathlib.Core.List.{List, [], _∷_, _++_}
+use native.Mathlib.Omega.{arith}
+use lib.Dec.{lit≤, lit<}
+use lib.ListN.{replicate, getD}
+use Rattle.sheet.specs.declared.Primitive.the-variants.{Movbk}
+use Rattle.sheet.specs.declared.Repeat.the-variants.{WhileZ}
+use Rattle.sheet.specs.declared.Instr.the-variants.{Blocks}
+use Rattle.sheet.specs.Psw.{settled}
+use Rattle.sheet.specs.Registers.{CW, PC, inPs}
+use Rattle.sheet.specs.Memory.{byteAt, readMem, writeMem}
+use Rattle.sheet.specs.Act as act
+use Rattle.sheet.specs.World.{World, world}
+use Rattle.sheet.specs.Handler.{Event, done, runBy, run, happened}
+use Rattle.sheet.specs.Traps.{push, pop, save, trap}
+use Rattle.sheet.specs.Interrupts.{reti, interrupts}
+use Rattle.sheet.specs.Control.{control}
+use Rattle.sheet.specs.Block.{stepIndex, sourceElement, targetElement, setTarget, primitive, goesOnAfter, element, repeated, block}
+use Rattle.sheet.specs.Execute.{untrapped, operation, execute}
+use Rattle.sheet.specs.Reading as reading
+use Rattle.sheet.specs.Reading.{known, scan}
+use Rattle.sheet.specs.Encoding.{prefixOf, lookUp}
+use Rattle.sheet.specs.FirstByte.{afterPrefix, prefixed, instruction}
+use Rattle.sheet.specs.Step.{fits, sound, codeAt, source, interrupting, singleStep, stepping, counted, decoded, awake, stepBy, step, interruptBy, interrupt}
+use Rattle.theorems.specs.Repeat.{Block, single, singles, firstOr, elements, reg, walk, low, Kept, own-byte, source-byte, target-byte, NeverOnItself, stepped, no-call, and-then, Restores, Gap, quiet, service, begun, next-own, Taken}
+use Rattle.theorems.specs.RepeatEngines.{accesses, accepts, definition}
+use Rattle.theorems.proofs.Repeat.{definition-demand3}
+use Rattle.theorems.proofs.RepeatFile.{placed-reads}
+use Rattle.theorems.proofs.RepeatSingles.{singles-keep}
+
+abbrev pub move3 : Block
+move3 = record { kind = Movbk; word = false; seg = inPs; repeat = WhileZ; size = 3 }
+
+-- AW CW DW BW SP BP IX IY DS1 PS SS DS0 PC PSW
+abbrev pub words : (cw sp ix iy pc psw : ℕ) → List ℕ
+words cw sp ix iy pc psw = 0 ∷ cw ∷ 0 ∷ 0 ∷ sp ∷ 0 ∷ ix ∷ iy ∷ 0 ∷ 0 ∷ 0 ∷ 0 ∷ pc ∷ psw ∷ []
+
+-- the vector 8 at 32, the stack from 58 to 63, the instruction at 64, the handler at 72, the blocks at 80 and 84
+abbrev pub memory : (stack target : List ℕ) → List ℕ
+memory stack target =
+    replicate 32 0
+    ++ (72 ∷ 0 ∷ 0 ∷ 0 ∷ replicate 22 0)
+    ++ stack
+    ++ (0xf3 ∷ 0x2e ∷ 0xa4 ∷ 0 ∷ 0 ∷ 0 ∷ 0 ∷ 0 ∷ 0xf9 ∷ 0xcf ∷ 0 ∷ 0 ∷ 0 ∷ 0 ∷ 0 ∷ 0 ∷ 1 ∷ 2 ∷ 3 ∷ 0 ∷ [])
+    ++ target
+
+abbrev pub machine : List ℕ → ℕ → List ℕ → World
+machine file count ram = world (record { file = file; halted = false; tape = 0; log = 0; count = count }) ram [] [] []
+
+abbrev pub start : World
+start = machine (words 3 64 80 84 64 0xf202) 0 (memory (replicate 6 0) (0 ∷ 0 ∷ 0 ∷ []))
+
+-- on the way: after the first step, at the handler, after its first instruction, back from it
+abbrev pub after-one : World
+after-one = machine (words 2 64 81 85 64 0xf202) 1 (memory (replicate 6 0) (1 ∷ 0 ∷ 0 ∷ []))
+
+abbrev pushed : List ℕ
+pushed = 64 ∷ 0 ∷ 0 ∷ 0 ∷ 0x02 ∷ 0xf2 ∷ []
+
+abbrev pub in-handler : World
+in-handler = machine (words 2 58 81 85 72 0xf002) 1 (memory pushed (1 ∷ 0 ∷ 0 ∷ []))
+
+abbrev pub with-carry : World
+with-carry = machine (words 2 58 81 85 73 0xf003) 2 (memory pushed (1 ∷ 0 ∷ 0 ∷ []))
+
+-- it did change memory: what was pushed stays below the stack pointer
+abbrev pub back : World
+back = machine (words 2 64 81 85 64 0xf202) 3 (memory pushed (1 ∷ 0 ∷ 0 ∷ []))
+
+-- whoever unfolds this unfolds what these steps need of the definition
+unfoldable pub opened : ℕ
+unfolding settled byteAt readMem writeMem act._>>=_ runBy run push pop save trap reti interrupts control stepIndex sourceElement targetElement setTarget primitive goesOnAfter element repeated block untrapped operation execute reading._>>=_ scan prefixOf lookUp afterPrefix prefixed instruction fits sound interrupting singleStep stepping counted decoded awake stepBy step interruptBy interrupt
+opened = 0
+
+pub first : step start ≡ done tt after-one (happened (step start))
+unfolding opened
+first = refl
+
+pub call : interrupt 8 true after-one ≡ done tt in-handler (happened (interrupt 8 true after-one))
+unfolding opened
+call = refl
+
+pub in-service : step in-handler ≡ done tt with-carry (happened (step in-handler))
+unfolding opened
+in-service = refl
+
+pub returns : step with-carry ≡ done tt back (happened (step with-carry))
+unfolding opened
+returns = refl
+
+pub three-elements : elements move3 start ≡ 3
+unfolding opened elements firstOr singles single
+three-elements = refl
+
+-- what a service must put back
+abbrev pub Mine : ℕ → Type 0
+Mine = Kept move3 start 3
+
+pub mine : (a : ℕ) → Kept move3 start (elements move3 start) a → Mine a
+mine a k = rw three-elements at k
+
+same-bytes : (a : ℕ) → Mine a → byteAt (back .ram) [] a ≡ byteAt (after-one .ram) [] a
+unfolding byteAt walk
+same-bytes a (own-byte zero h e) = rw e
+same-bytes a (own-byte (suc zero) h e) = rw e
+same-bytes a (own-byte (suc (suc zero)) h e) = rw e
+same-bytes a (own-byte (suc (suc (suc j))) h e) = absurd (omega arith)
+same-bytes a (source-byte zero h t (low e)) = rw e
+same-bytes a (source-byte (suc zero) h t (low e)) = rw e
+same-bytes a (source-byte (suc (suc zero)) h t (low e)) = rw e
+same-bytes a (source-byte (suc (suc (suc j))) h t (low e)) = absurd (omega arith)
+same-bytes a (target-byte zero h t (low e)) = rw e
+same-bytes a (target-byte (suc zero) h t (low e)) = rw e
+same-bytes a (target-byte (suc (suc zero)) h t (low e)) = rw e
+same-bytes a (target-byte (suc (suc (suc j))) h t (low e)) = absurd (omega arith)
+
+pub restores : Restores Mine after-one back
+restores = record { registers = refl; kept = same-bytes }
+
+-- the targets, 84 to 86, are none of the instruction's bytes, 64 to 66
+own-low : (a c : ℕ) → c < 3 → a ≡ codeAt 0 64 c → a < 67
+own-low a c h e = omega arith
+
+pub apart : NeverOnItself move3 start
+unfolding walk
+apart zero c a h t (low e) r l o = omega (arith, own-low a c l o)
+apart (suc zero) c a h t (low e) r l o = omega (arith, own-low a c l o)
+apart (suc (suc zero)) c a h t (low e) r l o = omega (arith, own-low a c l o)
+apart (suc (suc (suc j))) c a h t (low e) r l o = omega arith
+
+pub reads-move3 : scan instruction (source start) 0 ≡ known (Blocks Movbk false inPs WhileZ) 3
+unfolding opened
+reads-move3 = refl
+
+taken : Taken definition move3 start
+taken =
+    record {
+      read = reads-move3;
+      blocks = refl;
+      repeated = refl;
+      accepted = (after-one, accesses (happened (step start)), accepts first);
+      untraced = refl;
+      clean = apart;
+      whole = refl;
+      sixteen = lit< tt;
+    }
+
+served : Gap definition Mine after-one back
+served =
+    service
+    (record {
+      vector = 8;
+      maskable = true;
+      entry = in-handler;
+      shown = accesses (happened (interrupt 8 true after-one));
+      in-range = lit< tt;
+      taken = accepts call;
+      served =
+          and-then
+          (and-then no-call (stepped (accesses (happened (step in-handler))) (accepts in-service)))
+          (stepped (accesses (happened (step with-carry))) (accepts returns));
+      awake = refl;
+    })
+    restores
+
+moved-byte : byteAt (singles move3 start 2 .ram) (singles move3 start 2 .rom) 85 ≡ 2
+unfolding opened singles single
+moved-byte = refl
+
+-- What demand 3 says of this: whatever the second own step answers, it is accepted; PC is on the first prefix again, CW is 1, and
+-- two bytes have moved.
+second : (n : ℕ) (v : World) (o : List Event) → definition .Step back n v o
+    → (n ≡ 0) × (reg v PC ≡ 64) × (reg v CW ≡ 1) × (byteAt (v .ram) (v .rom) 85 ≡ 2)
+unfolding walk
+second n v o s =
+    let k = definition-demand3 move3 start taken Mine mine in
+    let one = next-own begun (quiet refl) (accepts first) in
+    let z = k .goes-on 1 n _ o after-one back v (rw three-elements (lit≤ tt)) one served s in
+    let a = k .on-the-way 2 _ v (rw three-elements (lit≤ tt)) (next-own one served (subst (λ n. definition .Step back n v o) z s)) in
+    let r = placed-reads 1 64 (singles move3 start 2 .state .file) (singles-keep move3 start refl refl 2 .long) in (
+      z,
+      ap (λ f. getD f PC 0) (a .registers) ∙ r .pc,
+      ap (λ f. getD f CW 0) (a .registers) ∙ r .cw,
+      a .kept 85 (target-byte 1 (lit< tt) tt (low refl)) ∙ moved-byte,
+    )

@@ -1,0 +1,144 @@
+-- Four engines that demand 3 rules out: one that does a whole repeat in one step, one that writes every byte there and idles
+-- through the other steps, one that returns to the last prefix only, and one that loses its place in a service. Each is the
+-- definition, spoilt; the claim is refuted on the example's move of three bytes.
+use Prim.Native.Nat.{ℕ, zero, suc, _+_}
+use mathlib.Core.Path.{_≡_, refl, sym, ap, _∙_}
+use mathlib.Core.Bool.{true}
+use mathlib.Core.Logic.{_≢_}
+use mathlib.Core.List.{List, []}
+use native.Mathlib.Omega.{arith}
+use lib.Dec.{eqb, lit≤, lit<}
+use lib.ListN.{getD, set}
+use Rattle.sheet.specs.Width.{pick}
+use Rattle.sheet.specs.Registers.{CW, PC}
+use Rattle.sheet.specs.Memory.{byteAt}
+use Rattle.sheet.specs.World.{World, world, withState, withFile}
+use Rattle.sheet.specs.Handler.{Event, Outcome, refused, done, happened}
+use Rattle.sheet.specs.Step.{step, interrupt}
+use Rattle.theorems.specs.Repeat.{single, singles, reg, walk, low, target-byte, placed, stepped, no-call, and-then, Gap, quiet, service, begun, next-own, Taken, Demand3}
+use Rattle.theorems.specs.RepeatEngines.{accesses, accepts, engine}
+use Rattle.theorems.proofs.RepeatExample.{move3, start, after-one, in-handler, with-carry, back, opened, first, call, in-service, returns, three-elements, Mine, mine, restores, apart, reads-move3}
+use Rattle.theorems.proofs.RepeatFile.{placed-reads}
+use Rattle.theorems.proofs.RepeatSingles.{singles-keep}
+
+-- the example is taken by every engine that accepts it
+takes : (wrong : World → Outcome Unit) (v : World) (t : List Event) → wrong start ≡ done tt v t → Taken (engine wrong interrupt) move3 start
+takes wrong v t e =
+    record {
+      read = reads-move3;
+      blocks = refl;
+      repeated = refl;
+      accepted = (v, accesses t, accepts e);
+      untraced = refl;
+      clean = apart;
+      whole = refl;
+      sixteen = lit< tt;
+    }
+
+-- PC is on the first byte after steps 1 and 2
+on-first : (c p j : ℕ) → reg (withState start (withFile (start .state) (placed c p (singles move3 start j .state .file)))) PC ≡ p
+on-first c p j = placed-reads c p (singles move3 start j .state .file) (singles-keep move3 start refl refl j .long) .pc
+
+-- an engine whose first step leaves PC off the first byte has no demand 3
+refuted : (wrong : World → Outcome Unit) (v : World) (t : List Event) → wrong start ≡ done tt v t → reg v PC ≢ 64 → Demand3 (engine wrong interrupt) → ⊥
+refuted wrong v t e off d =
+    let k = d move3 start (takes wrong v t e) Mine mine in
+    let a = k .on-the-way 1 _ v (rw three-elements (lit≤ tt)) (next-own begun (quiet refl) (accepts e)) in
+    off (ap (λ f. getD f PC 0) (a .registers) ∙ on-first 2 64 1)
+
+-- it goes on at once while PC stays where it was
+hurry : ℕ → ℕ → Outcome Unit → Outcome Unit
+hurry zero p o = o
+hurry (suc n) p (refused k t) = refused k t
+hurry (suc n) p (done a v t) = pick (eqb (reg v PC) p) (hurry n p (step v)) (done a v t)
+
+pub all-at-once : World → Outcome Unit
+all-at-once w = hurry (reg w CW) (reg w PC) (step w)
+
+-- "Doing a whole repeat in one step"
+pub not-all-at-once : Demand3 (engine all-at-once interrupt) → ⊥
+unfolding opened all-at-once hurry
+not-all-at-once = refuted all-at-once _ _ refl (λ e. omega arith)
+
+-- it stays on the last prefix where it should stay on the first
+pub to-last-prefix : World → Outcome Unit
+to-last-prefix w = off (step w)
+  where
+    off : Outcome Unit → Outcome Unit
+    off (refused k t) = refused k t
+    off (done a v t) = done a (withState v (withFile (v .state) (set (v .state .file) PC (pick (eqb (reg v PC) (reg w PC)) (reg v PC + 1) (reg v PC))))) t
+
+-- "Returning to the last prefix only"
+pub not-to-last-prefix : Demand3 (engine to-last-prefix interrupt) → ⊥
+unfolding opened to-last-prefix
+not-to-last-prefix = refuted to-last-prefix _ _ refl (λ e. omega arith)
+
+-- it writes every byte in its first step, and idles through the others: registers and PC go as they should
+pub idles : World → Outcome Unit
+idles w = blend (step w) (all-at-once w)
+  where
+    blend : Outcome Unit → Outcome Unit → Outcome Unit
+    blend (refused k t) o = refused k t
+    blend (done a v t) (refused k t′) = refused k t′
+    blend (done a v t) (done a′ v′ t′) = done a (world (v .state) (v′ .ram) (v .rom) (v .tape) (v .log)) t
+
+last-byte : byteAt (singles move3 start 1 .ram) (singles move3 start 1 .rom) 86 ≡ 0
+unfolding opened singles single
+last-byte = refl
+
+-- the last byte of the target is to be 0 after one step
+early : (v : World) (t : List Event) → idles start ≡ done tt v t → byteAt (v .ram) (v .rom) 86 ≡ 3 → Demand3 (engine idles interrupt) → ⊥
+unfolding walk
+early v t e h d =
+    let k = d move3 start (takes idles v t e) Mine mine in
+    let a = k .on-the-way 1 _ v (rw three-elements (lit≤ tt)) (next-own begun (quiet refl) (accepts e)) in
+    let off : _≡_ {A = ℕ} 3 0 = sym h ∙ a .kept 86 (target-byte 2 (lit< tt) tt (low refl)) ∙ last-byte in
+    omega arith
+
+pub not-idles : Demand3 (engine idles interrupt) → ⊥
+unfolding opened idles all-at-once hurry
+not-idles = early _ _ refl refl
+
+-- It loses its place in a service: where three steps are counted it takes the instruction for ended, whatever CW is. Left alone,
+-- the move of three bytes is done right; with a service after its first step it is not.
+pub loses-its-place : World → Outcome Unit
+loses-its-place w = pick (eqb (w .state .count) 3) (done tt (withState w (withFile (w .state) (placed 0 67 (w .state .file)))) []) (step w)
+
+lost-first : loses-its-place start ≡ done tt after-one (happened (step start))
+unfolding loses-its-place
+lost-first = first
+
+lost-service : loses-its-place in-handler ≡ done tt with-carry (happened (step in-handler))
+unfolding loses-its-place
+lost-service = in-service
+
+lost-return : loses-its-place with-carry ≡ done tt back (happened (step with-carry))
+unfolding loses-its-place
+lost-return = returns
+
+lost-second : loses-its-place back ≡ done tt (withState back (withFile (back .state) (placed 0 67 (back .state .file)))) []
+unfolding loses-its-place
+lost-second = refl
+
+pub not-loses-its-place : Demand3 (engine loses-its-place interrupt) → ⊥
+not-loses-its-place d =
+    let k = d move3 start (takes loses-its-place after-one (happened (step start)) lost-first) Mine mine in
+    let g : Gap (engine loses-its-place interrupt) Mine after-one back =
+    service
+    (record {
+      vector = 8;
+      maskable = true;
+      entry = in-handler;
+      shown = accesses (happened (interrupt 8 true after-one));
+      in-range = lit< tt;
+      taken = accepts call;
+      served =
+          and-then
+          (and-then no-call (stepped (accesses (happened (step in-handler))) (accepts lost-service)))
+          (stepped (accesses (happened (step with-carry))) (accepts lost-return));
+      awake = refl;
+    })
+    restores in
+    let a = k .on-the-way 2 _ _ (rw three-elements (lit≤ tt)) (next-own (next-own begun (quiet refl) (accepts lost-first)) g (accepts lost-second)) in
+    let off : _≡_ {A = ℕ} 67 64 = ap (λ f. getD f PC 0) (a .registers) ∙ on-first 1 64 2 in
+    omega arith
