@@ -6,6 +6,9 @@ pub mod RepeatTurn
 pub mod RepeatSingles
 pub mod Repeat
 pub mod RepeatCode
+pub mod RepeatExample
+pub mod RepeatWrong
+pub mod RepeatOnce
 pub mod BoundsRules
 pub mod BoundsOperands
 pub mod BoundsGroups
@@ -15,8 +18,7 @@ pub mod BoundsStep
 pub mod BoundsPrepare
 pub mod Calls
 pub mod CallsStandIns
+pub mod CallsCode
 pub mod Runs
 pub mod RunsStandIns
-pub mod RepeatExample
-pub mod RepeatWrong
-pub mod RepeatOnce
+pub mod RunsCode

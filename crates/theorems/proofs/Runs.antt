@@ -149,12 +149,29 @@ steps-leave (suc k) w v t n f s (step-then {u = u} {s = q} {t = r} e g) =
     steps-leave k u v r (l .sound .whole) (fits-again w u (l .lent) f) (sound-again u (l .sound)) g
 
 -- where the first a steps are all done, b more from where they lead make up a run of a + b
-pub run-splits : (a b : ℕ) (w v : World) (n : ℕ) (t : List Event) → length (w .state .file) ≡ 14 → fits w ≡ true → sound w ≡ true → runs a w ≡ ran n v a t
+split-good : (a b : ℕ) (w v : World) (n : ℕ) (t : List Event) → length (w .state .file) ≡ 14 → fits w ≡ true → sound w ≡ true → runs a w ≡ ran n v a t
     → runs (a + b) w ≡ after a t (runs b v)
-run-splits a b w v n t l f s e =
+split-good a b w v n t l f s e =
     let g = done-steps a w f s n a v t (rw e at (run-is a w)) in
     let (f′, s′) = steps-leave a w v t l f s g in
     past-checks (a + b) w f s ∙ steps-then a b w v t g ∙ ap (after a t) (sym (past-checks b v f′ s′))
+
+-- the same where the checks refuse: then there is no step, and both runs answer alike
+pub run-splits : (a b : ℕ) (w v : World) (n : ℕ) (t : List Event) → length (w .state .file) ≡ 14 → runs a w ≡ ran n v a t → runs (a + b) w ≡ after a t (runs b v)
+run-splits a b w v n t l e = go (fits w) (sound w) refl refl
+  where
+    at-once : (m : ℕ) → ((c : ℕ) → runs c w ≡ ran m w 0 []) → runs (a + b) w ≡ after a t (runs b v)
+    at-once m h =
+        let q : ran n v a t ≡ ran m w 0 [] = sym e ∙ h a in
+        let x : v ≡ w = cc in
+        let y : a ≡ 0 = cc in
+        let z : t ≡ [] = cc in
+        rw (h (a + b), x, y, z, h b, zero-add 0)
+
+    go : (f s : Bool) → fits w ≡ f → sound w ≡ s → runs (a + b) w ≡ after a t (runs b v)
+    go true true f s = split-good a b w v n t l f s e
+    go true false f s = at-once 2 (λ c. run-only c w (ran 2 w 0 []) (unsound f s))
+    go false s f g = at-once 1 (λ c. run-only c w (ran 1 w 0 []) (unfit f))
 
 -- ---- cycles
 
@@ -165,6 +182,6 @@ tally-both [] t = sym (no-first (tally t))
 tally-both (e ∷ s) t = ap (λ (x : Bus). cost e ⊕ x) (tally-both s t) ∙ sym (⊕-assoc (cost e) (tally s) (tally t))
 
 -- so in what is reported: the steps add up, and so do the cycles
-pub run-splits-report : (a b : ℕ) (w v x : World) (n m k : ℕ) (t s : List Event) → length (w .state .file) ≡ 14 → fits w ≡ true → sound w ≡ true
+pub run-splits-report : (a b : ℕ) (w v x : World) (n m k : ℕ) (t s : List Event) → length (w .state .file) ≡ 14
     → runs a w ≡ ran n v a t → runs b v ≡ ran m x k s → ranReport (runs (a + b) w) ≡ runReport m x (a + k) (tally t ⊕ tally s)
-run-splits-report a b w v x n m k t s l f g e h = rw (run-splits a b w v n t l f g e, h, tally-both t s)
+run-splits-report a b w v x n m k t s l e h = rw (run-splits a b w v n t l e, h, tally-both t s)

@@ -3,4 +3,5 @@ pub mod RepeatEngines
 pub mod RepeatCode
 pub mod Bounds
 pub mod Runs
+pub mod RunsCode
 pub mod StandIns

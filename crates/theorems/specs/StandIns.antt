@@ -6,9 +6,11 @@ use mathlib.Core.Path.{_≡_}
 use lib.ListN.{length}
 use lib.Dec.{eqb, leb}
 use Rattle.sheet.specs.declared.Bus.{Bus}
+use Rattle.sheet.specs.declared.Entry.{Entry}
 use Rattle.sheet.specs.World.{World, world}
 use Rattle.sheet.specs.Contract.{Report, report}
-use Rattle.sheet.specs.Step.{stepReport}
+use Rattle.sheet.specs.Log.{rule, readLog}
+use Rattle.sheet.specs.Step.{stepReport, interruptReport}
 use Rattle.sheet.specs.Run.{runs, RunReport, runReport, ranReport}
 
 -- the numbers of a buffer are at most n
@@ -25,12 +27,20 @@ lendable w =
     && (leb (w .state .tape) 18446744073709551615
     && (leb (w .state .log) 18446744073709551615 && (every 255 (w .ram) && (every 255 (w .rom) && (every 255 (w .tape) && every 255 (w .log))))))))
 
--- an engine does what step promises, what run promises
+-- an engine does what step promises, what an interrupt call promises, what run promises
 abbrev pub MeetsStep : (World → Report) → Type 0
 MeetsStep engine = (w : World) → lendable w ≡ true → stepReport w ≡ engine w
 
+abbrev pub MeetsInterrupt : (ℕ → Bool → World → Report) → Type 0
+MeetsInterrupt engine =
+    (vector : ℕ) (maskable : Bool) (w : World) → vector ≤ 255 → lendable w ≡ true → interruptReport vector maskable w ≡ engine vector maskable w
+
 abbrev pub MeetsRun : (ℕ → World → RunReport) → Type 0
 MeetsRun engine = (budget : ℕ) (w : World) → budget ≤ 65535 → lendable w ≡ true → ranReport (runs budget w) ≡ engine budget w
+
+-- a log reader does what reading promises
+abbrev pub MeetsReader : (List ℕ → ℕ → Entry) → Type 0
+MeetsReader reader = (log : List ℕ) (at : ℕ) → every 255 log ≡ true → readLog rule log at ≡ reader log at
 
 -- ---- the parts of a report
 
@@ -76,3 +86,22 @@ adjusted = machine (0x61 ∷ 0 ∷ 0 ∷ 0 ∷ 0 ∷ 0 ∷ 0 ∷ 0 ∷ 0 ∷ 0 �
 
 abbrev pub asleep : World
 asleep = machine (0 ∷ 0 ∷ 0 ∷ 0 ∷ 0 ∷ 0 ∷ 0 ∷ 0 ∷ 0 ∷ 0 ∷ 0 ∷ 0 ∷ 0 ∷ 0xf002 ∷ []) true 0 (0x90 ∷ [])
+
+-- ---- one that takes an interrupt with IE 1, and is masked with IE 0: vector 0 is 1234:5678, the stack ends at 10
+
+abbrev pub called : (sp ps pc psw : ℕ) → List ℕ → World
+called sp ps pc psw stack =
+    machine (0 ∷ 0 ∷ 0 ∷ 0 ∷ sp ∷ 0 ∷ 0 ∷ 0 ∷ 0 ∷ ps ∷ 0 ∷ 0 ∷ pc ∷ psw ∷ []) false 0 (0x78 ∷ 0x56 ∷ 0x34 ∷ 0x12 ∷ stack)
+
+abbrev pub callable : World
+callable = called 10 0 0 0xf202 (0 ∷ 0 ∷ 0 ∷ 0 ∷ 0 ∷ 0 ∷ [])
+
+abbrev pub entered : World
+entered = called 4 0x1234 0x5678 0xf002 (0 ∷ 0 ∷ 0 ∷ 0 ∷ 0x02 ∷ 0xf2 ∷ [])
+
+abbrev pub masked : World
+masked = called 10 0 0 0xf002 (0 ∷ 0 ∷ 0 ∷ 0 ∷ 0 ∷ 0 ∷ [])
+
+-- document 01's log
+abbrev pub sampleLog : List ℕ
+sampleLog = 0x05 ∷ 0x81 ∷ 0x03 ∷ 0x41 ∷ 0xac ∷ 0x02 ∷ 0x42 ∷ 0xb4 ∷ 0x24 ∷ []
