@@ -7,8 +7,8 @@ use second::listing;
 use std::io::{self, BufReader, BufWriter, Read, Write};
 use std::process::ExitCode;
 
-const USAGE: &str = "usage: judge generate SEED COUNT | judge answer | \
-                     judge diff CASES RESULT_A RESULT_B | judge list";
+const USAGE: &str = "usage: judge generate SEED COUNT [FIRST] | judge answer | \
+                     judge diff CASES RESULT_A RESULT_B [FIRST] | judge list";
 
 const MISMATCHED: u8 = 1;
 const UNUSABLE: u8 = 2;
@@ -17,9 +17,11 @@ fn main() -> ExitCode {
     let words: Vec<String> = std::env::args().skip(1).collect();
     let words: Vec<&str> = words.iter().map(String::as_str).collect();
     let outcome = match words[..] {
-        ["generate", seed, count] => write_cases(seed, count),
+        ["generate", seed, count] => write_cases(seed, count, "0"),
+        ["generate", seed, count, first] => write_cases(seed, count, first),
         ["answer"] => answer_input(),
-        ["diff", cases, left, right] => compare(cases, left, right),
+        ["diff", cases, left, right] => compare(cases, left, right, "0"),
+        ["diff", cases, left, right, first] => compare(cases, left, right, first),
         ["list"] => list_input(),
         _ => Err(USAGE.to_string()),
     };
@@ -29,11 +31,12 @@ fn main() -> ExitCode {
     })
 }
 
-fn write_cases(seed: &str, count: &str) -> Result<ExitCode, String> {
+fn write_cases(seed: &str, count: &str, first: &str) -> Result<ExitCode, String> {
     let seed = number(seed)?;
     let count = number(count)?;
+    let first = number(first)?;
     let mut output = BufWriter::new(io::stdout().lock());
-    generate(seed, count, &mut output)
+    generate(seed, first, count, &mut output)
         .and_then(|()| output.flush())
         .map_err(|error| error.to_string())?;
     Ok(ExitCode::SUCCESS)
@@ -53,7 +56,8 @@ fn answer_input() -> Result<ExitCode, String> {
     Ok(ExitCode::SUCCESS)
 }
 
-fn compare(cases: &str, left: &str, right: &str) -> Result<ExitCode, String> {
+fn compare(cases: &str, left: &str, right: &str, first: &str) -> Result<ExitCode, String> {
+    let first = number(first)?;
     let read = |path: &str| std::fs::read(path).map_err(|error| format!("{path}: {error}"));
     let (cases, left_bytes, right_bytes) = (read(cases)?, read(left)?, read(right)?);
     let left = Answers {
@@ -65,7 +69,7 @@ fn compare(cases: &str, left: &str, right: &str) -> Result<ExitCode, String> {
         bytes: &right_bytes,
     };
     let mut output = BufWriter::new(io::stdout().lock());
-    let summary = diff(&cases, left, right, &mut output)
+    let summary = diff(first, &cases, left, right, &mut output)
         .and_then(|summary| output.flush().map(|()| summary))
         .map_err(|error| error.to_string())?;
     Ok(if summary.mismatched == 0 {

@@ -25,22 +25,24 @@ pub struct Answers<'a> {
     pub bytes: &'a [u8],
 }
 
+#[derive(Default)]
 pub struct Summary {
     pub cases: u64,
     pub mismatched: u64,
+    /// how many cases there were of each call
+    calls: [u64; 5],
 }
 
-/// Writes a line for each differing field and a last line that sums up.
+/// Writes a line for each differing field, then how many cases there were of each call, and a last line that sums up.
+/// The first case has this number.
 pub fn diff(
+    first: u64,
     mut cases: &[u8],
     mut left: Answers,
     mut right: Answers,
     output: &mut impl Write,
 ) -> io::Result<Summary> {
-    let mut summary = Summary {
-        cases: 0,
-        mismatched: 0,
-    };
+    let mut summary = Summary::default();
     loop {
         let case = match Case::read(&mut cases) {
             Ok(case) => case,
@@ -51,8 +53,9 @@ pub fn diff(
             }
             Err(End::Broken(error)) => return Err(error),
         };
-        let number = summary.cases;
+        let number = first + summary.cases;
         summary.cases += 1;
+        summary.calls[case.call as usize] += 1;
         let length = length_for(case.call);
         match (left.take(length), right.take(length)) {
             (Some(a), Some(b)) if a == b => {}
@@ -85,6 +88,11 @@ pub fn diff(
             )?;
         }
     }
+    let [step, run, interrupt, reset, reading] = summary.calls;
+    writeln!(
+        output,
+        "{step} step, {run} run, {interrupt} interrupt, {reset} reset, {reading} log reading"
+    )?;
     writeln!(
         output,
         "{} cases compared, {} mismatched",

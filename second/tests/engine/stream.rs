@@ -158,15 +158,15 @@ fn patches_past_their_buffer_are_skipped() {
 
 #[test]
 fn a_seed_always_makes_the_same_stream() {
-    let stream = |seed, count| {
+    let stream = |seed, first, count| {
         let mut bytes = Vec::new();
-        generate(seed, count, &mut bytes).expect("memory does not fail");
+        generate(seed, first, count, &mut bytes).expect("memory does not fail");
         bytes
     };
-    let long = stream(7, 300);
-    assert_eq!(stream(7, 300), long);
-    assert!(long.starts_with(&stream(7, 100)));
-    assert_ne!(stream(8, 100), stream(7, 100));
+    let long = stream(7, 0, 300);
+    assert_eq!(stream(7, 0, 300), long);
+    assert_eq!([stream(7, 0, 100), stream(7, 100, 200)].concat(), long);
+    assert_ne!(stream(8, 0, 100), stream(7, 0, 100));
 }
 
 #[test]
@@ -248,7 +248,7 @@ fn words_of(cases: &[u8], left: &[u8], right: &[u8]) -> (String, u64) {
         name: "B",
         bytes: right,
     };
-    let summary = diff(cases, left, right, &mut text).expect("memory does not fail");
+    let summary = diff(7, cases, left, right, &mut text).expect("memory does not fail");
     (String::from_utf8(text).expect("words"), summary.mismatched)
 }
 
@@ -259,7 +259,10 @@ fn mismatches_are_told_in_words() {
     let (text, mismatched) = words_of(&cases, &good, &good);
     assert_eq!(
         (&text[..], mismatched),
-        ("2 cases compared, 0 mismatched\n", 0)
+        (
+            "2 step, 0 run, 0 interrupt, 0 reset, 0 log reading\n2 cases compared, 0 mismatched\n",
+            0
+        )
     );
     let mut bad = good.clone();
     bad[58 + 10] ^= 0xFF;
@@ -267,13 +270,13 @@ fn mismatches_are_told_in_words() {
     let (text, mismatched) = words_of(&cases, &good, &bad);
     assert_eq!(mismatched, 1);
     let lines: Vec<&str> = text.lines().collect();
-    let what = "case 1: step of F3 05 34 12 (REP ADD)";
+    let what = "case 8: step of F3 05 34 12 (REP ADD)";
     assert_eq!(lines[0], format!("{what}: AW is 1234h by A, 12CBh by B"));
     assert_eq!(
         lines[1],
         format!("{what}: PSW is F002h by A, F043h by B (differing: CY Z)")
     );
-    assert_eq!(lines[2], "2 cases compared, 1 mismatched");
+    assert_eq!(lines[3], "2 cases compared, 1 mismatched");
 }
 
 #[test]
@@ -281,7 +284,7 @@ fn missing_and_spare_answers_are_told() {
     let cases = bytes_of(&step_of(&[0x40])).repeat(2);
     let good = answers_of(&cases);
     let (text, mismatched) = words_of(&cases, &good, &good[..100]);
-    assert!(text.contains("case 1: B stopped before this case"));
+    assert!(text.contains("case 8: B stopped before this case"));
     assert!(mismatched > 0);
     let spare = [&good[..], &[0]].concat();
     let (text, mismatched) = words_of(&cases, &spare, &good);

@@ -45,8 +45,9 @@ const FAMILIES: [(u32, Family); 22] = [
     (100, programs::run),
 ];
 
-pub fn generate(seed: u64, count: u64, stream: &mut impl Write) -> io::Result<()> {
-    for number in 0..count {
+/// So many cases of a seed, from the case of the first number on.
+pub fn generate(seed: u64, first: u64, count: u64, stream: &mut impl Write) -> io::Result<()> {
+    for number in first..first.saturating_add(count) {
         case(seed, number).write(stream)?;
     }
     Ok(())

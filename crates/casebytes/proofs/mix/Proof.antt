@@ -1,0 +1,22 @@
+use native.Mathlib.Omega.{arith}
+use Rattle.casebytes.specs.Buffers.{mixed}
+use Rattle.casebytes.proofs.Laws.{mixed-fits}
+use borrow.Author.Needs.{needs}
+use borrow.Author.Needs.{needs}
+use Rattle.casebytes.proofs.mix.Statement.{statement}
+use Rattle.casebytes.proofs.mix.Tie as tie
+
+cast-result : tie.Need-cast-result
+unfolding mixed
+cast-result c = omega (arith, mixed-fits (c .args .sum) (c .args .byte) (search needs) (search needs))
+
+mul-result : tie.Need-mul-result
+unfolding mixed
+mul-result c = omega (arith, mixed-fits (c .args .sum) (c .args .byte) (search needs) (search needs))
+
+returns : tie.Need-returns
+unfolding mixed
+returns c = cc
+
+pub mix-spec : {M : Type 1} → statement M
+mix-spec = tie.close (tie.spec cast-result mul-result (λ c. search needs) returns)

@@ -1,0 +1,11 @@
+use Rattle.casebytes.specs.Numbers.{wordOf}
+use borrow.Author.Needs.{needs}
+use Rattle.casebytes.proofs.word.Statement.{statement}
+use Rattle.casebytes.proofs.word.Tie as tie
+
+returns : tie.Need-returns
+unfolding wordOf
+returns c = cc
+
+pub word-spec : {M : Type 1} → statement M
+word-spec = tie.close (tie.spec (λ c. search needs) (λ c. search needs) returns)

@@ -1,0 +1,12 @@
+use Rattle.caseform.specs.Form.{withCall}
+use borrow.Author.Needs.{needs}
+use Rattle.caseform.proofs.put_call.Statement.{statement}
+use Rattle.caseform.proofs.put_call.Tie as tie
+
+returns : tie.Need-returns
+unfolding withCall
+returns c = cc
+
+pub put-call-spec : {M : Type 1} → statement M
+put-call-spec =
+    tie.close (tie.spec (λ c κs. search needs) (λ c κs. search needs) (λ c κs. search needs) returns)

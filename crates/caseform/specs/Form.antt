@@ -1,0 +1,81 @@
+-- Where a case's header and its results have their fields.
+use Prim.Native.Nat.{ℕ, zero, suc, _+_, _*_, _%_}
+use mathlib.Core.Bool.{Bool, true, false, not}
+use mathlib.Core.List.{List, [], _∷_}
+use lib.ListN.{getD, set, replicate}
+use lib.Dec.{eqb, ltb}
+use mir.Val.{boolByte}
+use Rattle.sheet.specs.declared.State.{State}
+use Rattle.sheet.specs.declared.Entry.{Entry}
+use Rattle.sheet.specs.declared.Entry.the-variants.{Record, End, Malformed, Beyond}
+use Rattle.casebytes.specs.Numbers.{wordAt, doubleAt, wordPut, doublePut}
+use Rattle.caseform.specs.declared.Case.{Case}
+
+abbrev pub placeIf : Bool → ℕ → ℕ → ℕ
+placeIf true a b = a
+placeIf false a b = b
+
+-- where the register file has the stream's register i: eight general ones, PS, SS, DS0, DS1, PC, PSW
+unfoldable pub placeOf : ℕ → ℕ
+placeOf i = placeIf (ltb i 8) i (placeIf (ltb i 11) (i + 1) (placeIf (ltb i 12) 8 i))
+
+-- the register file after the header's first registers
+unfoldable pub fileOf : List ℕ → ℕ → List ℕ
+fileOf header zero = replicate 14 0
+fileOf header (suc i) = set (fileOf header i) (placeOf i) (wordAt header (6 + i * 2))
+
+unfoldable pub stateOf : List ℕ → State
+stateOf header =
+    record {
+      file = fileOf header 14;
+      halted = not (eqb (getD header 1 0) 0);
+      tape = doubleAt header 34;
+      log = doubleAt header 38;
+      count = doubleAt header 42;
+    }
+
+unfoldable pub caseOf : List ℕ → Case
+caseOf header =
+    record {
+      call = getD header 0 0;
+      maskable = not (eqb (getD header 2 0) 0);
+      vector = getD header 3 0;
+      budget = wordAt header 4;
+      ram = doubleAt header 46;
+      rom = doubleAt header 50;
+      tape = wordAt header 54;
+      log = wordAt header 56;
+      patches = wordAt header 58;
+      fill = getD header 60 0;
+    }
+
+-- a result with the answer, the halted mark, the steps done and the bus cycles put in
+unfoldable pub withAnswer : ℕ → Bool → ℕ → ℕ → List ℕ → List ℕ
+withAnswer number halted steps cycles l = doublePut (doublePut (set (set l 0 number) 1 (boolByte halted)) 2 steps) 6 cycles
+
+-- with the first registers of a file put in, from byte 10 on
+unfoldable pub withFile : List ℕ → ℕ → List ℕ → List ℕ
+withFile file zero l = l
+withFile file (suc i) l = wordPut (withFile file i l) (10 + i * 2) (getD file (placeOf i) 0)
+
+-- with the places and the count put in
+unfoldable pub withPlaces : ℕ → ℕ → ℕ → List ℕ → List ℕ
+withPlaces tape log count l = doublePut (doublePut (doublePut l 38 (tape % 4294967296)) 42 (log % 4294967296)) 46 count
+
+unfoldable pub withCall : ℕ → ℕ → ℕ → State → List ℕ → List ℕ
+withCall number steps cycles s l = withPlaces (s .tape) (s .log) (s .count) (withFile (s .file) 14 (withAnswer number (s .halted) steps cycles l))
+
+-- with the sums of RAM and log put in
+unfoldable pub withSums : ℕ → ℕ → List ℕ → List ℕ
+withSums ram log l = doublePut (doublePut l 50 ram) 54 log
+
+-- a result of a log reading: kind, gap, key, value, place
+unfoldable pub withRecord : ℕ → ℕ → ℕ → ℕ → ℕ → List ℕ → List ℕ
+withRecord kind gap key value next l =
+    doublePut (doublePut (doublePut (doublePut (set l 0 kind) 1 (gap % 4294967296)) 5 (key % 4294967296)) 9 (value % 4294967296)) 13 (next % 4294967296)
+
+unfoldable pub withEntry : Entry → List ℕ → List ℕ
+withEntry (Record gap key value next) l = withRecord 0 gap key value next l
+withEntry End l = withRecord 1 0 0 0 0 l
+withEntry (Malformed at) l = withRecord 9 0 0 0 at l
+withEntry Beyond l = withRecord 2 0 0 0 0 l

@@ -1,0 +1,237 @@
+// The program `cases` as a library: cases come from standard input one after the other, each gets one public call, and each
+// result goes to standard output.
+use caseform::Case;
+use io::write_all;
+use libc::STDERR_FILENO;
+use libc::STDIN_FILENO;
+use libc::STDOUT_FILENO;
+use sheet::Bus;
+use sheet::State;
+
+// ---- the calls
+
+// What the four calls on the machine come to.
+struct Done {
+    number: u8,
+    steps: u32,
+    state: State,
+    bus: Bus,
+}
+
+// How many steps a step with this answer did.
+fn steps_of(number: u8) -> u32 {
+    if number == 0 { 1 } else { 0 }
+}
+
+fn stepped(s: State, ram: &mut [u8], rom: &[u8], tape: &[u8], log: &mut [u8]) -> Done {
+    let a = engine::step(s, ram, rom, tape, log);
+    let state = a.state;
+    let bus = a.bus;
+    Done {
+        number: a.number,
+        steps: steps_of(a.number),
+        state,
+        bus,
+    }
+}
+
+fn ran(s: State, ram: &mut [u8], rom: &[u8], tape: &[u8], log: &mut [u8], c: Case) -> Done {
+    let a = engine::run(s, ram, rom, tape, log, c.budget);
+    let state = a.state;
+    let bus = a.bus;
+    Done {
+        number: a.number,
+        steps: a.steps as u32,
+        state,
+        bus,
+    }
+}
+
+fn interrupted(s: State, ram: &mut [u8], rom: &[u8], tape: &[u8], log: &[u8], c: Case) -> Done {
+    let a = calls::interrupt(s, ram, rom, tape, log, c.vector, c.maskable);
+    let state = a.state;
+    let bus = a.bus;
+    Done {
+        number: a.number,
+        steps: 0,
+        state,
+        bus,
+    }
+}
+
+fn reset() -> Done {
+    Done {
+        number: 0,
+        steps: 0,
+        state: calls::reset(),
+        bus: Bus { cycles: 0 },
+    }
+}
+
+fn called(s: State, ram: &mut [u8], rom: &[u8], tape: &[u8], log: &mut [u8], c: Case) -> Done {
+    let call = c.call;
+    match call {
+        0 => stepped(s, ram, rom, tape, log),
+        1 => ran(s, ram, rom, tape, log, c),
+        2 => interrupted(s, ram, rom, tape, log, c),
+        _ => reset(),
+    }
+}
+
+// ---- results
+
+// An array's length is known where it is lent as one.
+fn write_call(out: &[u8; 58]) -> bool {
+    write_all(STDOUT_FILENO, out)
+}
+
+fn write_reading(out: &[u8; 17]) -> bool {
+    write_all(STDOUT_FILENO, out)
+}
+
+fn answer_call(s: State, ram: &mut [u8], rom: &[u8], tape: &[u8], log: &mut [u8], c: Case) -> bool {
+    let d = called(s, ram, rom, tape, log, c);
+    let state = d.state;
+    let mut out = [0; 58];
+    caseform::put_call(&mut out, d.number, d.steps, d.bus.cycles, state);
+    caseform::put_sums(&mut out, casebytes::sum(ram), casebytes::sum(log));
+    write_call(&out)
+}
+
+fn answer_reading(log: &[u8], at: usize) -> bool {
+    let e = logreader::read_log(log, at);
+    let mut out = [0; 17];
+    caseform::put_entry(&mut out, e);
+    write_reading(&out)
+}
+
+fn answer(s: State, ram: &mut [u8], rom: &[u8], tape: &[u8], log: &mut [u8], c: Case) -> bool {
+    if c.call == 4 {
+        answer_reading(log, s.log)
+    } else {
+        answer_call(s, ram, rom, tape, log, c)
+    }
+}
+
+// ---- the stream
+
+// Whether standard input had as many bytes as the buffer.
+fn read_whole(buffer: &mut [u8]) -> bool {
+    io::read_full(STDIN_FILENO, buffer) == buffer.len()
+}
+
+fn lay_out(fill: u8, ram: &mut [u8], rom: &mut [u8], log: &mut [u8], patches: &[u8]) {
+    casebytes::fill(ram, fill);
+    casebytes::fill(rom, fill);
+    casebytes::fill(log, fill);
+    let n = patches.len() / 6;
+    casebytes::patch_all(ram, 0, patches, n);
+    casebytes::patch_all(rom, 1, patches, n);
+    casebytes::patch_all(log, 2, patches, n);
+}
+
+// The rest of a case, over buffers of the lengths that it names.
+fn serve(
+    s: State,
+    ram: &mut [u8],
+    rom: &mut [u8],
+    tape: &mut [u8],
+    log: &mut [u8],
+    patches: &mut [u8],
+    c: Case,
+) -> bool {
+    if !read_whole(patches) {
+        return false;
+    }
+    if !read_whole(tape) {
+        return false;
+    }
+    lay_out(c.fill, ram, rom, log, patches);
+    answer(s, ram, rom, tape, log, c)
+}
+
+fn unfit() -> bool {
+    write_all(
+        STDERR_FILENO,
+        b"cases: the stream ends here: a case does not fit\n",
+    );
+    false
+}
+
+// The case of a header, unless it does not fit the buffers or names no call.
+fn lend(
+    s: State,
+    ram: &mut [u8],
+    rom: &mut [u8],
+    tape: &mut [u8],
+    log: &mut [u8],
+    patches: &mut [u8],
+    c: Case,
+) -> bool {
+    let m = c.ram;
+    let n = c.rom;
+    let t = c.tape;
+    let l = c.log;
+    let p = c.patches;
+    if ram.len() < m || rom.len() < n {
+        return unfit();
+    }
+    if tape.len() < t || log.len() < l {
+        return unfit();
+    }
+    if patches.len() / 6 < p || 4 < c.call {
+        return unfit();
+    }
+    serve(
+        s,
+        &mut ram[..m],
+        &mut rom[..n],
+        &mut tape[..t],
+        &mut log[..l],
+        &mut patches[..p * 6],
+        c,
+    )
+}
+
+// One case; whether to go on.
+fn one(
+    ram: &mut [u8],
+    rom: &mut [u8],
+    tape: &mut [u8],
+    log: &mut [u8],
+    patches: &mut [u8],
+) -> bool {
+    let mut header = [0; 64];
+    if !read_whole(&mut header) {
+        return false;
+    }
+    let c = caseform::case_of(&header);
+    let s = caseform::state_of(&header);
+    lend(s, ram, rom, tape, log, patches, c)
+}
+
+// A proved loop has to end, and nothing says that the input does: the turns are counted down from a number that no run uses up.
+fn all(ram: &mut [u8], rom: &mut [u8], tape: &mut [u8], log: &mut [u8], patches: &mut [u8]) {
+    let mut turns = u64::MAX;
+    while turns > 0 && one(ram, rom, tape, log, patches) {
+        turns -= 1;
+    }
+}
+
+// The buffers come from functions: of a call's result the length is known, and no check computes its elements.
+fn memory() -> [u8; 1048577] {
+    [0; 1048577]
+}
+
+fn patch_bytes() -> [u8; 24576] {
+    [0; 24576]
+}
+
+pub fn run() {
+    let mut ram = memory();
+    let mut rom = memory();
+    let mut tape = io::buffer();
+    let mut log = io::buffer();
+    let mut patches = patch_bytes();
+    all(&mut ram, &mut rom, &mut tape, &mut log, &mut patches);
+}
