@@ -28,7 +28,7 @@ use Rattle.sheet.specs.Reading.{Read, known, scan, word}
 use Rattle.sheet.specs.Encoding.{prefixOf, lookUp}
 use Rattle.sheet.specs.FirstByte.{afterPrefix, prefixed, instruction}
 use Rattle.sheet.specs.Step.{fits, sound, refusal, source, interrupting, singleStep, stepping, counted, decoded, awake, stepBy, step, stepReport}
-use Rattle.theorems.specs.Bounds.{Finds, Odd, OddIn, Takes, stepTop, preparing}
+use Rattle.theorems.specs.Bounds.{Finds, Odd, OddIn, Makes, stepTop, preparing}
 use Rattle.sheet.proofs.Rules.{plus, andThen, exec-bind}
 
 -- a tree hands on a after exactly n cycles, and leaves a world of which Q holds
@@ -214,17 +214,17 @@ step-is w i n x = go (fits w) (sound w) (w .state .halted) (scan instruction (so
 taken : (w : World) (n : ℕ) (e : Seen Unit) → Exactly (λ x. Unit {0}) n tt e → (x : World) × (reportOf w e ≡ report 0 x (record { cycles = n }))
 taken w n (ends tt x m) (exactly q h) = (x, rw h)
 
-turns : (w : World) (i : Instr) (n k : ℕ) → Finds w i n → Exactly (λ x. Unit {0}) k tt (exec (stepping i n) (counted w)) → Takes w k
+turns : (w : World) (i : Instr) (n k : ℕ) → Finds w i n → Exactly (λ x. Unit {0}) k tt (exec (stepping i n) (counted w)) → Makes w k
 unfolding stepReport exec
 turns w i n k f h =
     let (x, e) = taken w k (exec (stepping i n) (counted w)) h in
     record { after = x; is = rw (step-is w i n f) e }
 
-pub prepare-1020 : (w : World) (size n : ℕ) → Finds w (prepareAt size) n → OddIn w → flagOf (pswOf (w .state)) BRK ≡ false → Takes w 1020
+pub prepare-1020 : (w : World) (size n : ℕ) → Finds w (prepareAt size) n → OddIn w → flagOf (pswOf (w .state)) BRK ≡ false → Makes w 1020
 unfolding counted
 prepare-1020 w size n f o e = turns w (prepareAt size) n 1020 f (of-stepping size n (counted w) o e)
 
-pub prepare-1028 : (w : World) (size n : ℕ) → Finds w (prepareAt size) n → OddIn w → flagOf (pswOf (w .state)) BRK ≡ true → size % 2 ≡ 0 → size ≤ 65535 → Takes w stepTop
+pub prepare-1028 : (w : World) (size n : ℕ) → Finds w (prepareAt size) n → OddIn w → flagOf (pswOf (w .state)) BRK ≡ true → size % 2 ≡ 0 → size ≤ 65535 → Makes w stepTop
 unfolding counted
 prepare-1028 w size n f o e h l = turns w (prepareAt size) n 1028 f (of-tracing size n (counted w) o e h l)
 
@@ -241,8 +241,8 @@ found-traced : Finds (preparing 0xf102) (prepareAt 0) 4
 unfolding fits sound scan instruction prefixed prefixOf afterPrefix lookUp word reading._>>=_ byteAt
 found-traced = record { fit = refl; good = refl; up = refl; there = refl }
 
-pub reaches-1020 : Takes (preparing 0xf002) 1020
+pub reaches-1020 : Makes (preparing 0xf002) 1020
 reaches-1020 = prepare-1020 (preparing 0xf002) 0 4 found (odd-there 0xf002) refl
 
-pub reaches-1028 : Takes (preparing 0xf102) stepTop
+pub reaches-1028 : Makes (preparing 0xf102) stepTop
 reaches-1028 = prepare-1028 (preparing 0xf102) 0 4 found-traced (odd-there 0xf102) refl refl (lit≤ tt)

@@ -75,6 +75,6 @@ preparing psw =
     [] [] []
 
 -- the step is accepted and makes exactly n bus cycles
-pub record Takes (w : World) (n : ℕ) : Type 0 where
+pub record Makes (w : World) (n : ℕ) : Type 0 where
   pub after : World
   pub is : stepReport w ≡ report 0 after (record { cycles = n })
