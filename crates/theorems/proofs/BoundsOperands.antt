@@ -76,10 +76,10 @@ pub of-save : Most Unit save 6
 unfolding save
 of-save = seq of-psw λ x. seq (of-push x) λ _. seq of-flags λ _. seq of-registers λ r. seq (of-push _) λ _. of-push _
 
-even-first : (v : ℕ) → 4 * v % 2 ≡ 0
+pub even-first : (v : ℕ) → 4 * v % 2 ≡ 0
 even-first v = omega arith
 
-even-second : (v : ℕ) → (4 * v + 2) % 2 ≡ 0
+pub even-second : (v : ℕ) → (4 * v + 2) % 2 ≡ 0
 even-second v = omega arith
 
 pub of-trap : (v : ℕ) → Most Unit (trap v) 8

@@ -29,6 +29,7 @@ use Rattle.sheet.specs.Encoding.{prefixOf, lookUp}
 use Rattle.sheet.specs.FirstByte.{afterPrefix, prefixed, instruction}
 use Rattle.sheet.specs.Step.{fits, sound, refusal, source, interrupting, singleStep, stepping, counted, decoded, awake, stepBy, step, stepReport}
 use Rattle.theorems.specs.Bounds.{Finds, Odd, OddIn, Makes, stepTop, preparing}
+use Rattle.theorems.proofs.BoundsOperands.{even-first, even-second}
 use Rattle.sheet.proofs.Rules.{plus, andThen, exec-bind}
 
 -- a tree hands on a after exactly n cycles, and leaves a world of which Q holds
@@ -171,12 +172,6 @@ of-save w o =
 of-leaving : (ps pc : ℕ) (w : World) → Exactly (λ v. Unit {0}) 0 tt (exec ((PS ≔ ps) >>= λ _. PC ≔ pc) w)
 unfolding exec run runBy tally _>>=_
 of-leaving ps pc w = exactly tt refl
-
-even-first : (v : ℕ) → 4 * v % 2 ≡ 0
-even-first v = omega arith
-
-even-second : (v : ℕ) → (4 * v + 2) % 2 ≡ 0
-even-second v = omega arith
 
 of-trap : (v : ℕ) (w : World) → OddIn w → Exactly (λ x. Unit {0}) 8 tt (exec (trap v) w)
 unfolding trap
