@@ -5,10 +5,12 @@ pub mod RepeatPrimitive
 pub mod RepeatTurn
 pub mod RepeatSingles
 pub mod Repeat
-pub mod RepeatCode
+pub mod RepeatOnce
 pub mod RepeatExample
 pub mod RepeatWrong
-pub mod RepeatOnce
+pub mod RepeatCode
+pub mod RepeatCalls
+pub mod RepeatSmall
 pub mod BoundsRules
 pub mod BoundsOperands
 pub mod BoundsGroups

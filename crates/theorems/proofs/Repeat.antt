@@ -22,13 +22,13 @@ use Rattle.sheet.specs.Step.{fits, sound, refusal, codeAt, source, stepping, de
 use Rattle.sheet.proofs.ReadingLaws.{scan-rests}
 use Rattle.sheet.proofs.Lent.{Lent, Sound, Good}
 use Rattle.sheet.proofs.StepLaws.{sound-is, step-leaves, interrupt-leaves}
-use Rattle.theorems.specs.Repeat.{Block, ends, single, singles, elements, reg, Kept, own-byte, source-byte, target-byte, past, placed, Engine, Call, stepped, interrupted, Calls, no-call, and-then, Gap, quiet, service, Own, begun, next-own, shown, Taken, After, Claimed, Demand3}
-use Rattle.theorems.specs.RepeatEngines.{accesses, Tells, accepts, refuses, definition}
+use Rattle.theorems.specs.Repeat.{Block, ends, single, singles, elements, reg, Kept, own-byte, source-byte, target-byte, past, placed, Engine, Call, stepped, interrupted, Calls, no-call, and-then, Gap, quiet, service, Own, begun, next-own, Answered, shown, Taken, After, Claimed, Demand3}
+use Rattle.theorems.specs.RepeatEngines.{accesses, Tells, accepts, refuses, engine, definition}
 use Rattle.theorems.proofs.RepeatCount.{firstOr-le, firstOr-pos, firstOr-before, firstOr-end}
 use Rattle.theorems.proofs.RepeatFile.{Keeps, placed-reads, placed-back, placed-pc}
 use Rattle.theorems.proofs.RepeatPrimitive.{fileAfter, CoversDue, Agree, primitive-local}
 use Rattle.theorems.proofs.RepeatSingles.{covers-by, single-is, singles-next, singles-keep, source-is, target-is, singles-own}
-use Rattle.theorems.proofs.RepeatTurn.{over, element-turn, empty-turn}
+use Rattle.theorems.proofs.RepeatTurn.{over, Turned, element-turn, empty-turn}
 
 -- an engine whose calls tell what the definition's calls come to
 pub record Faithful (E : Engine) : Type 0 where
@@ -73,10 +73,15 @@ unfolding fits
 fits-lent l e = rw (l .ram-long, l .rom-same) e
 
 -- what is read at PS:PC is what the step does
-pub turns : (w : World) (i : Block) → Ready w → scan instruction (source w) 0 ≡ known (Blocks (i .kind) (i .word) (i .seg) (i .repeat)) (i .size)
+turns : (w : World) (i : Block) → Ready w → scan instruction (source w) 0 ≡ known (Blocks (i .kind) (i .word) (i .seg) (i .repeat)) (i .size)
     → step w ≡ run (stepping (Blocks (i .kind) (i .word) (i .seg) (i .repeat)) (i .size)) (sheet.counted w)
 unfolding step stepBy awake decoded run
 turns w i r e = rw (r .fit, r .good, r .up, e)
+
+pub turned : (w : World) (i : Block) {file ram : List ℕ} {events : List Event} → Ready w
+    → scan instruction (source w) 0 ≡ known (Blocks (i .kind) (i .word) (i .seg) (i .repeat)) (i .size)
+    → (made : Turned (i .kind) (i .word) (i .seg) (i .repeat) (i .size) (sheet.counted w) file ram events) → step w ≡ done tt (made .v) (made .t)
+turned w i r e made = turns w i r e ∙ made .ran .is
 
 -- ---- calls keep what is lent, and a sound state
 
@@ -117,15 +122,15 @@ module _ (E : Engine) (F : Faithful E) where
       record { lent = lent-then (g .lent) (h .lent); sound = h .sound }
 
   -- a step that the definition accepts is answered so
-  record Answered (n : ℕ) (v u : World) (o : E .Shown) (t : List Event) : Type 0 where
+  record Told (n : ℕ) (v u : World) (o : E .Shown) (t : List Event) : Type 0 where
     zero-is : n ≡ 0
     world-is : u ≡ v
     shown-is : o ≡ E .of t
 
-  answered : {w u v : World} {n : ℕ} {o : E .Shown} {t : List Event} → E .Step w n u o → step w ≡ done tt v t → Answered n v u o t
+  answered : {w u v : World} {n : ℕ} {o : E .Shown} {t : List Event} → E .Step w n u o → step w ≡ done tt v t → Told n v u o t
   answered {w} {v = v} {t = t} h e = go (F .step-tells h)
     where
-      go : {n : ℕ} {u : World} {o : E .Shown} → Tells (E .of) w (step w) n u o → Answered n v u o t
+      go : {n : ℕ} {u : World} {o : E .Shown} → Tells (E .of) w (step w) n u o → Told n v u o t
       go (accepts {v = v′} {t = t′} x) = record { zero-is = refl; world-is = cc; shown-is = ap (E .of) (cc) }
       go (refuses x) = absurd (not-done (sym x ∙ e))
 
@@ -211,7 +216,7 @@ module _ (E : Engine) (F : Faithful E) (i : Block) (w : World) (t : Taken E i w)
         showed = x .showed;
         lent = lent-then (x .lent) (lent-then (g .lent) (h .lent));
         sound = h .sound;
-        awake = s .awake;
+        awake = s .up-again;
       }
 
   -- the instruction is read again
@@ -248,7 +253,6 @@ module _ (E : Engine) (F : Faithful E) (i : Block) (w : World) (t : Taken E i w)
       let c : ℕ = reg w CW - j in
       let k = keep j in
       let go : Ready v = record { fit = fits-lent (x .lent) (at-first .fit); good = sound-back v (x .sound); up = x .awake } in
-      let e = turns v i go (still-read (omega arith) x) in
       let covers : CoversDue K (i .kind) (i .word) (i .seg) f = (
         λ hs. covers-by (i .word) (fileOf f (segment (i .seg))) (getD f IX 0) (λ a q. inside a (source-byte j h hs (source-is i w (t .blocks) (t .whole) hs j a q))),
         λ ht. covers-by (i .word) (getD f DS1 0) (getD f IY 0) (λ a q. inside a (target-byte j h ht (target-is i w (t .blocks) (t .whole) ht j a q))),
@@ -257,7 +261,7 @@ module _ (E : Engine) (F : Faithful E) (i : Block) (w : World) (t : Taken E i w)
       let made =
       element-turn (i .kind) (i .word) (i .seg) (i .repeat) (i .size) c (reg w PC) (sheet.counted v) f (k .long) (x .registers) (k .brk ∙ t .untraced) (t .blocks) (t .repeated)
       (eqb-pos c (omega arith)) in
-      let is : step v ≡ done tt (made .v) (made .t) = e ∙ made .ran .is in
+      let is = turned v i go (still-read (omega arith) x) made in
       let left = step-good (x .sound) is in
       let less : sub16 c 1 ≡ reg w CW - suc j = omega arith in
       let after = singles-next i w (t .blocks) j in
@@ -304,14 +308,13 @@ module _ (E : Engine) (F : Faithful E) (i : Block) (w : World) (t : Taken E i w)
   after : {p j : ℕ} {l : List (E .Shown)} {v : World} → Inv p j l v → After E i w K p j l v
   after x = record { registers = x .registers; kept = x .memory .same; accesses = x .showed; awake = x .awake }
 
-  reach : ((v : World) → (n : ℕ) × (u : World) × (o : E .Shown) × E .Step v n u o)
-      → ((j : ℕ) (l : List (E .Shown)) (v : World) → j < elements i w → Own E K w j l v → (v′ : World) × Gap E K v v′)
+  reach : ((j : ℕ) (l : List (E .Shown)) (v : World) → j < elements i w → Own E K w j l v → (v′ : World) × Gap E K v v′ × Answered E v′)
       → (j : ℕ) → j ≤ elements i w → (l : List (E .Shown)) × (v : World) × Own E K w j l v
-  reach answers plan zero h = ([], w, begun)
-  reach answers plan (suc j) h =
-      let (l, v, x) = reach answers plan j (omega arith) in
-      let (v′, g) = plan j l v h x in
-      let (n, u, o, s) = answers v′ in
+  reach plan zero h = ([], w, begun)
+  reach plan (suc j) h =
+      let (l, v, x) = reach plan j (omega arith) in
+      let (v′, g, r) = plan j l v h x in
+      let (n, u, o, s) = r in
       let z = next-step h (way x h) g s .0 in
       (l ++ (o ∷ []), u, next-own x g (subst (λ n. E .Step v′ n u o) z s))
 
@@ -322,10 +325,9 @@ module _ (E : Engine) (F : Faithful E) (i : Block) (w : World) (t : Taken E i w)
   at-zero z n v u o g s =
       let x = across inv-begun g in
       let go : Ready v = record { fit = fits-lent (x .lent) (at-first .fit); good = sound-back v (x .sound); up = x .awake } in
-      let e = turns v i go (still-read (omega arith) x) in
       let here : v .state .file ≡ placed (reg w CW) (reg w PC) (w .state .file) = rw (sub-zero (reg w CW)) at (x .registers) in
       let made = empty-turn (i .kind) (i .word) (i .seg) (i .repeat) (i .size) (reg w CW) (reg w PC) (sheet.counted v) (w .state .file) (t .whole) here (t .untraced) (t .repeated) (rw z) in
-      let is : step v ≡ done tt (made .v) (made .t) = e ∙ made .ran .is in
+      let is = turned v i go (still-read (omega arith) x) made in
       let a = answered E F s is in (
         a .zero-is,
         ap (λ y. y .state .file) (a .world-is) ∙ made .file-is ∙ placed-pc (past i w) (w .state .file) (t .whole),
@@ -341,7 +343,7 @@ module _ (E : Engine) (F : Faithful E) (i : Block) (w : World) (t : Taken E i w)
         goes-on = λ j n l o v v′ v″ h x g s. next-step h (way x h) g s .0;
         on-the-way = λ j l v h x. after (way x h);
         at-the-end = λ l v pos x. after (end x refl pos);
-        comes-to-an-end = λ answers plan. reach answers plan _ (le-refl _);
+        comes-to-an-end = λ plan. reach plan _ (le-refl _);
         some-element = firstOr-pos (reg w CW) _;
       }
 
@@ -349,14 +351,15 @@ module _ (E : Engine) (F : Faithful E) (i : Block) (w : World) (t : Taken E i w)
 pub demand3 : (E : Engine) → Faithful E → Demand3 E
 demand3 E F i w t K inside = claimed E F i w t K inside
 
--- and so of the definition, which answers every step
-pub answers : (steps : World → Outcome Unit) (w : World) → (n : ℕ) × (v : World) × (o : List Event) × Tells accesses w (steps w) n v o
-answers steps w = go (steps w) refl
+-- an engine that is a function answers every step
+pub answers : (steps : World → Outcome Unit) (interrupts : ℕ → Bool → World → Outcome Unit) (w : World) → Answered (engine steps interrupts) w
+answers steps interrupts w = go (steps w) refl
   where
-    go : (out : Outcome Unit) → steps w ≡ out → (n : ℕ) × (v : World) × (o : List Event) × Tells accesses w (steps w) n v o
+    go : (out : Outcome Unit) → steps w ≡ out → Answered (engine steps interrupts) w
     go (refused n t) e = (n, w, accesses [], refuses e)
     go (done a v t) e = (0, v, accesses t, accepts e)
 
+-- and so of the definition
 pub definition-faithful : Faithful definition
 definition-faithful = record { step-tells = λ h. h; interrupt-tells = λ h. h; same-shown = λ t t′ e. e }
 

@@ -1,18 +1,24 @@
 -- Demand 3 of the code, by the contracts of its calls.
-use Prim.Native.Nat.{ℕ}
+use Prim.Native.Nat.{ℕ, zero, suc, _≤_, zero-le}
 use mathlib.Core.Path.{_≡_, refl, sym, ap, subst, _∙_}
 use mathlib.Core.Bool.{Bool}
-use mathlib.Core.List.{List, [], _∷_}
+use mathlib.Core.List.{List, [], _∷_, _++_}
+use lib.ListN.{length}
 use Rattle.sheet.specs.declared.Bus.{Bus}
-use Rattle.sheet.specs.World.{World}
-use Rattle.sheet.specs.Handler.{Event, reads, writes, takes, gives, asks, copies, changes, Outcome, refused, done, cost, tally, _⊕_}
+use Rattle.sheet.specs.declared.State.{State}
+use Rattle.sheet.specs.World.{World, world}
+use Rattle.sheet.specs.Handler.{Event, reads, writes, takes, gives, asks, copies, changes, Outcome, refused, done, kept, happened, nothing, cost, tally, _⊕_}
 use Rattle.sheet.specs.Contract.{seen, Report, report, reportOf}
 use Rattle.sheet.specs.Step.{step, interrupt, stepReport, interruptReport}
-use Rattle.sheet.proofs.Rules.{no-first}
-use Rattle.theorems.specs.Repeat.{Demand3}
+use Rattle.sheet.proofs.StepLaws.{step-leaves}
+use Rattle.sheet.proofs.Rules.{no-first, no-last, ⊕-assoc}
+use Rattle.theorems.specs.Bounds.{Bytes}
+use Rattle.theorems.specs.Repeat.{Block, single, singles, Answered, shown, After, Demand3}
 use Rattle.theorems.specs.RepeatEngines.{accesses, Tells, accepts, refuses}
-use Rattle.theorems.specs.RepeatCode.{StepCall, step-call, InterruptCall, interrupt-call, code}
+use Rattle.theorems.specs.RepeatCode.{StepCall, step-call, InterruptCall, interrupt-call, code, total, eventsOf}
 use Rattle.theorems.proofs.Repeat.{Faithful, demand3}
+use Rattle.theorems.proofs.BoundsStep.{at-most-1028}
+use Rattle.theorems.proofs.Runs.{tally-both}
 
 -- what a report tells
 abbrev Told : World → Outcome Unit → Report → Type 0
@@ -52,3 +58,35 @@ code-faithful = record {
 
 pub code-demand3 : Demand3 code
 code-demand3 = demand3 code code-faithful
+
+-- such a call has an answer wherever code can be called: over fourteen registers and memory of bytes
+answer : (w : World) (n : ℕ) (s : State) (ram log : List ℕ) (b : Bus) → b .cycles ≤ 1028 → stepReport w ≡ report n (world s ram (w .rom) (w .tape) log) b → Answered code w
+answer w n s ram log b m e = (n, world s ram (w .rom) (w .tape) log, b, step-call (record { most = m; is = e }))
+
+pub code-answers : (w : World) → length (w .state .file) ≡ 14 → Bytes (w .ram) → Bytes (w .rom) → Answered code w
+unfolding stepReport step
+code-answers w whole ram rom = go (step w) refl
+  where
+    go : (out : Outcome Unit) → step w ≡ out → Answered code w
+    go (refused n t) e = answer w n (w .state) (w .ram) (w .log) nothing zero-le (rw e)
+    go (done a v t) e =
+        let g = step-leaves kept w v t whole e .lent in
+        answer w 0 (v .state) (v .ram) (v .log) (tally t) (at-most-1028 w v t ram rom e) (rw (e, ← g .rom-same, ← g .tape-same))
+
+-- ---- the own steps' cycles together
+
+total-last : (l : List Bus) (n : Bus) → total (l ++ (n ∷ [])) ≡ total l ⊕ n
+unfolding total
+total-last [] n = no-last n ∙ sym (no-first n)
+total-last (m ∷ l) n = ap (λ x. m ⊕ x) (total-last l n) ∙ sym (⊕-assoc m (total l) n)
+
+total-shown : (i : Block) (w : World) (j : ℕ) → total (shown code i w j) ≡ tally (eventsOf i w j)
+unfolding total shown eventsOf tally
+total-shown i w zero = refl
+total-shown i w (suc j) =
+    let n : Bus = tally (happened (single i (singles i w j))) in
+    total-last (shown code i w j) n ∙ ap (λ x. x ⊕ n) (total-shown i w j) ∙ sym (tally-both (eventsOf i w j) (happened (single i (singles i w j))))
+
+-- what own steps 1 to j report comes to the sum over the accesses of j single primitives
+pub own-cycles : {i : Block} {w v : World} {K : ℕ → Type 0} {p j : ℕ} {l : List Bus} → After code i w K p j l v → total l ≡ tally (eventsOf i w j)
+own-cycles {i} {w} {j = j} a = ap total (a .accesses) ∙ total-shown i w j

@@ -1,6 +1,6 @@
 -- Demand 3 is not empty: a repeated move of three bytes, F3 2E A4, with an interrupt after its first step whose handler sets
 -- CY and returns. The whole interleaving is computed.
-use Prim.Native.Nat.{ℕ, zero, suc, _<_}
+use Prim.Native.Nat.{ℕ, zero, suc, _≤_, _<_}
 use mathlib.Core.Path.{_≡_, refl, ap, subst, _∙_}
 use mathlib.Core.Bool.{true, false}
 use mathlib.Core.List.{List, [], _∷_, _++_}
@@ -12,10 +12,10 @@ use Rattle.sheet.specs.declared.Repeat.the-variants.{WhileZ}
 use Rattle.sheet.specs.declared.Instr.the-variants.{Blocks}
 use Rattle.sheet.specs.Psw.{settled}
 use Rattle.sheet.specs.Registers.{CW, PC, inPs}
-use Rattle.sheet.specs.Memory.{byteAt, readMem, writeMem}
+use Rattle.sheet.specs.Memory.{byteAt, readMem, writeMem, busCycles}
 use Rattle.sheet.specs.Act as act
 use Rattle.sheet.specs.World.{World, world}
-use Rattle.sheet.specs.Handler.{Event, done, runBy, run, happened}
+use Rattle.sheet.specs.Handler.{Event, done, runBy, run, happened, tally}
 use Rattle.sheet.specs.Traps.{push, pop, save, trap}
 use Rattle.sheet.specs.Interrupts.{reti, interrupts}
 use Rattle.sheet.specs.Control.{control}
@@ -25,10 +25,12 @@ use Rattle.sheet.specs.Reading as reading
 use Rattle.sheet.specs.Reading.{known, scan}
 use Rattle.sheet.specs.Encoding.{prefixOf, lookUp}
 use Rattle.sheet.specs.FirstByte.{afterPrefix, prefixed, instruction}
-use Rattle.sheet.specs.Step.{fits, sound, codeAt, source, interrupting, singleStep, stepping, counted, decoded, awake, stepBy, step, interruptBy, interrupt}
-use Rattle.theorems.specs.Repeat.{Block, single, singles, firstOr, elements, reg, walk, low, Kept, own-byte, source-byte, target-byte, NeverOnItself, stepped, no-call, and-then, Restores, Gap, quiet, service, begun, next-own, Taken}
+use Rattle.sheet.specs.Step.{fits, sound, codeAt, source, interrupting, singleStep, stepping, counted, decoded, awake, stepBy, step, interruptBy, interrupt, stepReport, interruptReport}
+use Rattle.theorems.specs.Repeat.{Block, single, singles, firstOr, elements, reg, walk, low, Kept, own-byte, source-byte, target-byte, NeverOnItself, stepped, no-call, and-then, Restores, Engine, Gap, quiet, service, begun, next-own, Taken, Demand3}
 use Rattle.theorems.specs.RepeatEngines.{accesses, accepts, definition}
+use Rattle.theorems.specs.RepeatCode.{StepCall, step-call, InterruptCall, interrupt-call, code}
 use Rattle.theorems.proofs.Repeat.{definition-demand3}
+use Rattle.theorems.proofs.RepeatCode.{code-demand3}
 use Rattle.theorems.proofs.RepeatFile.{placed-reads}
 use Rattle.theorems.proofs.RepeatSingles.{singles-keep}
 
@@ -136,54 +138,113 @@ pub reads-move3 : scan instruction (source start) 0 ≡ known (Blocks Movbk fals
 unfolding opened
 reads-move3 = refl
 
-taken : Taken definition move3 start
-taken =
-    record {
-      read = reads-move3;
-      blocks = refl;
-      repeated = refl;
-      accepted = (after-one, accesses (happened (step start)), accepts first);
-      untraced = refl;
-      clean = apart;
-      whole = refl;
-      sixteen = lit< tt;
-    }
+-- the calls of an engine that go as computed
+pub record Goes (E : Engine) : Type 0 where
+  pub shown-first : E .Shown
+  pub shown-call : E .Shown
+  pub shown-carry : E .Shown
+  pub shown-return : E .Shown
+  pub stepping-first : E .Step start 0 after-one shown-first
+  pub calling : E .Interrupt 8 true after-one 0 in-handler shown-call
+  pub carrying : E .Step in-handler 0 with-carry shown-carry
+  pub returning : E .Step with-carry 0 back shown-return
 
-served : Gap definition Mine after-one back
-served =
-    service
-    (record {
-      vector = 8;
-      maskable = true;
-      entry = in-handler;
-      shown = accesses (happened (interrupt 8 true after-one));
-      in-range = lit< tt;
-      taken = accepts call;
-      served =
-          and-then
-          (and-then no-call (stepped (accesses (happened (step in-handler))) (accepts in-service)))
-          (stepped (accesses (happened (step with-carry))) (accepts returns));
-      awake = refl;
-    })
-    restores
+-- the example is taken, and its service is one that restores
+module _ (E : Engine) (g : Goes E) where
+  pub taken : Taken E move3 start
+  taken =
+      record {
+        read = reads-move3;
+        blocks = refl;
+        repeated = refl;
+        accepted = (after-one, g .shown-first, g .stepping-first);
+        untraced = refl;
+        clean = apart;
+        whole = refl;
+        sixteen = lit< tt;
+      }
+
+  pub served : Gap E Mine after-one back
+  served =
+      service
+      (record {
+        vector = 8;
+        maskable = true;
+        entry = in-handler;
+        shown = g .shown-call;
+        in-range = lit< tt;
+        taken = g .calling;
+        served = and-then (and-then no-call (stepped (g .shown-carry) (g .carrying))) (stepped (g .shown-return) (g .returning));
+        up-again = refl;
+      })
+      restores
+
+-- whatever the second own step answers, it is accepted; PC is on the first prefix again, CW is 1, and two bytes have moved
+abbrev pub Second : Engine → Type 0
+Second E = (n : ℕ) (v : World) (o : E .Shown) → E .Step back n v o → (n ≡ 0) × (reg v PC ≡ 64) × (reg v CW ≡ 1) × (byteAt (v .ram) (v .rom) 85 ≡ 2)
 
 moved-byte : byteAt (singles move3 start 2 .ram) (singles move3 start 2 .rom) 85 ≡ 2
 unfolding opened singles single
 moved-byte = refl
 
--- What demand 3 says of this: whatever the second own step answers, it is accepted; PC is on the first prefix again, CW is 1, and
--- two bytes have moved.
-second : (n : ℕ) (v : World) (o : List Event) → definition .Step back n v o
-    → (n ≡ 0) × (reg v PC ≡ 64) × (reg v CW ≡ 1) × (byteAt (v .ram) (v .rom) 85 ≡ 2)
+-- so says demand 3
+pub second : (E : Engine) → Goes E → Demand3 E → Second E
 unfolding walk
-second n v o s =
-    let k = definition-demand3 move3 start taken Mine mine in
-    let one = next-own begun (quiet refl) (accepts first) in
-    let z = k .goes-on 1 n _ o after-one back v (rw three-elements (lit≤ tt)) one served s in
-    let a = k .on-the-way 2 _ v (rw three-elements (lit≤ tt)) (next-own one served (subst (λ n. definition .Step back n v o) z s)) in
+second E g d n v o s =
+    let k = d move3 start (taken E g) Mine mine in
+    let one = next-own begun (quiet refl) (g .stepping-first) in
+    let z = k .goes-on 1 n _ o after-one back v (rw three-elements (lit≤ tt)) one (served E g) s in
+    let a = k .on-the-way 2 _ v (rw three-elements (lit≤ tt)) (next-own one (served E g) (subst (λ n. E .Step back n v o) z s)) in
     let r = placed-reads 1 64 (singles move3 start 2 .state .file) (singles-keep move3 start refl refl 2 .long) in (
       z,
       ap (λ f. getD f PC 0) (a .registers) ∙ r .pc,
       ap (λ f. getD f CW 0) (a .registers) ∙ r .cw,
       a .kept 85 (target-byte 1 (lit< tt) tt (low refl)) ∙ moved-byte,
     )
+
+-- ---- in the definition
+
+pub goes : Goes definition
+goes = record {
+  shown-first = accesses (happened (step start));
+  shown-call = accesses (happened (interrupt 8 true after-one));
+  shown-carry = accesses (happened (step in-handler));
+  shown-return = accesses (happened (step with-carry));
+  stepping-first = accepts first;
+  calling = accepts call;
+  carrying = accepts in-service;
+  returning = accepts returns;
+}
+
+pub second-step : Second definition
+second-step = second definition goes definition-demand3
+
+-- ---- in code
+
+in-code : (w v : World) (t : List Event) → step w ≡ done tt v t → v .rom ≡ w .rom → v .tape ≡ w .tape → tally t .cycles ≤ 1028 → StepCall w 0 v (tally t)
+unfolding stepReport
+in-code w v t e r p m =
+    subst (λ (x : World). StepCall w 0 x (tally t)) (rw (← r, ← p)) (step-call {s = v .state} {ram = v .ram} {log = v .log} (record { most = m; is = rw (e, ← r, ← p) }))
+
+called-in-code : InterruptCall 8 true after-one 0 in-handler (tally (happened (interrupt 8 true after-one)))
+unfolding opened interruptReport tally busCycles
+called-in-code = interrupt-call (record { most = lit≤ tt; is = refl })
+
+few : (tally (happened (step start)) .cycles ≤ 1028) × (tally (happened (step in-handler)) .cycles ≤ 1028) × (tally (happened (step with-carry)) .cycles ≤ 1028)
+unfolding opened tally busCycles
+few = (lit≤ tt, lit≤ tt, lit≤ tt)
+
+pub code-goes : Goes code
+code-goes = record {
+  shown-first = tally (happened (step start));
+  shown-call = tally (happened (interrupt 8 true after-one));
+  shown-carry = tally (happened (step in-handler));
+  shown-return = tally (happened (step with-carry));
+  stepping-first = in-code start after-one _ first refl refl (few .0);
+  calling = called-in-code;
+  carrying = in-code in-handler with-carry _ in-service refl refl (few .1);
+  returning = in-code with-carry back _ returns refl refl (few .2);
+}
+
+pub second-call : Second code
+second-call = second code code-goes code-demand3

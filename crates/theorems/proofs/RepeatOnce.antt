@@ -16,7 +16,7 @@ use Rattle.sheet.specs.Step as sheet
 use Rattle.sheet.specs.Step.{source, step}
 use Rattle.theorems.specs.Repeat.{Block, ofMemory, single, left, singles, reg, past, placed}
 use Rattle.theorems.specs.RepeatEngines.{accesses}
-use Rattle.theorems.proofs.Repeat.{Ready, turns}
+use Rattle.theorems.proofs.Repeat.{Ready, turned}
 use Rattle.theorems.proofs.RepeatFile.{placed-back, placed-pc}
 use Rattle.theorems.proofs.RepeatPrimitive.{fileAfter}
 use Rattle.theorems.proofs.RepeatSingles.{single-is, singles-keep}
@@ -45,7 +45,7 @@ single-steps i w read m once ready long clear =
     record {
       v = made .v;
       events = made .t;
-      is = turns w i ready read ∙ made .ran .is;
+      is = turned w i ready read made;
       registers = made .file-is ∙ ap (placed (reg w CW) (past i w)) after ∙ same;
       ram = rw one (made .ram-is);
       shows = rw one (made .shows);

@@ -15,9 +15,9 @@ use Rattle.sheet.specs.Memory.{byteAt}
 use Rattle.sheet.specs.World.{World, world, withState, withFile}
 use Rattle.sheet.specs.Handler.{Event, Outcome, refused, done, happened}
 use Rattle.sheet.specs.Step.{step, interrupt}
-use Rattle.theorems.specs.Repeat.{single, singles, reg, walk, low, target-byte, placed, stepped, no-call, and-then, Gap, quiet, service, begun, next-own, Taken, Demand3}
+use Rattle.theorems.specs.Repeat.{single, singles, reg, walk, low, target-byte, placed, quiet, begun, next-own, Taken, Demand3}
 use Rattle.theorems.specs.RepeatEngines.{accesses, accepts, engine}
-use Rattle.theorems.proofs.RepeatExample.{move3, start, after-one, in-handler, with-carry, back, opened, first, call, in-service, returns, three-elements, Mine, mine, restores, apart, reads-move3}
+use Rattle.theorems.proofs.RepeatExample.{move3, start, after-one, in-handler, with-carry, back, opened, first, call, in-service, returns, three-elements, Mine, mine, apart, reads-move3, Goes, second}
 use Rattle.theorems.proofs.RepeatFile.{placed-reads}
 use Rattle.theorems.proofs.RepeatSingles.{singles-keep}
 
@@ -120,25 +120,19 @@ lost-second : loses-its-place back ≡ done tt (withState back (withFile (back .
 unfolding loses-its-place
 lost-second = refl
 
+lost-goes : Goes (engine loses-its-place interrupt)
+lost-goes = record {
+  shown-first = accesses (happened (step start));
+  shown-call = accesses (happened (interrupt 8 true after-one));
+  shown-carry = accesses (happened (step in-handler));
+  shown-return = accesses (happened (step with-carry));
+  stepping-first = accepts lost-first;
+  calling = accepts call;
+  carrying = accepts lost-service;
+  returning = accepts lost-return;
+}
+
 pub not-loses-its-place : Demand3 (engine loses-its-place interrupt) → ⊥
 not-loses-its-place d =
-    let k = d move3 start (takes loses-its-place after-one (happened (step start)) lost-first) Mine mine in
-    let g : Gap (engine loses-its-place interrupt) Mine after-one back =
-    service
-    (record {
-      vector = 8;
-      maskable = true;
-      entry = in-handler;
-      shown = accesses (happened (interrupt 8 true after-one));
-      in-range = lit< tt;
-      taken = accepts call;
-      served =
-          and-then
-          (and-then no-call (stepped (accesses (happened (step in-handler))) (accepts lost-service)))
-          (stepped (accesses (happened (step with-carry))) (accepts lost-return));
-      awake = refl;
-    })
-    restores in
-    let a = k .on-the-way 2 _ _ (rw three-elements (lit≤ tt)) (next-own (next-own begun (quiet refl) (accepts lost-first)) g (accepts lost-second)) in
-    let off : _≡_ {A = ℕ} 67 64 = ap (λ f. getD f PC 0) (a .registers) ∙ on-first 1 64 2 in
+    let off : _≡_ {A = ℕ} 67 64 = second (engine loses-its-place interrupt) lost-goes d 0 _ _ (accepts lost-second) .1 in
     omega arith

@@ -195,7 +195,7 @@ module _ (E : Engine) where
     pub in-range : vector < 256
     pub taken : E .Interrupt vector maskable w 0 entry shown
     pub served : Calls entry v
-    pub awake : v .state .halted ≡ false
+    pub up-again : v .state .halted ≡ false
 
   -- what may fall before an own step: nothing, or a service that restores
   pub data Gap (K : ℕ → Type 0) (w v : World) : Type 0 where
@@ -207,6 +207,10 @@ module _ (E : Engine) where
     begun : Own K w zero [] w
     next-own : {j : ℕ} {l : List (E .Shown)} {o : E .Shown} {v v′ v″ : World} → Own K w j l v → Gap K v v′ → E .Step v′ 0 v″ o
         → Own K w (suc j) (l ++ (o ∷ [])) v″
+
+  -- a step from w is answered, in whatever way
+  abbrev pub Answered : World → Type 0
+  Answered w = (n : ℕ) × (v : World) × (o : E .Shown) × E .Step w n v o
 
   -- what the first j single primitives show
   unfoldable pub shown : Block → World → ℕ → List (E .Shown)
@@ -244,10 +248,9 @@ module _ (E : Engine) where
     pub on-the-way : (j : ℕ) (l : List (E .Shown)) (v : World) → j < k → Own K w j l v → After i w K (reg w PC) j l v
     -- after the k-th it is just past
     pub at-the-end : (l : List (E .Shown)) (v : World) → 0 < k → Own K w k l v → After i w K (past i w) k l v
-    -- and so it ends, if each step is answered, under any plan of what falls between
+    -- and so it ends, under any plan of what falls between, if each of these steps is answered
     pub comes-to-an-end :
-        ((v : World) → (n : ℕ) × (u : World) × (o : E .Shown) × E .Step v n u o)
-        → ((j : ℕ) (l : List (E .Shown)) (v : World) → j < k → Own K w j l v → (v′ : World) × Gap K v v′)
+        ((j : ℕ) (l : List (E .Shown)) (v : World) → j < k → Own K w j l v → (v′ : World) × Gap K v v′ × Answered v′)
         → (l : List (E .Shown)) × (v : World) × Own K w k l v
     -- k is 0 only with CW = 0
     pub some-element : 0 < reg w CW → 0 < k

@@ -1,14 +1,14 @@
 -- The calls in code, as their contracts tell: one more of the engines that demand 3 is stated of.
-use Prim.Native.Nat.{ℕ}
+use Prim.Native.Nat.{ℕ, zero, suc}
 use mathlib.Core.Bool.{Bool}
-use mathlib.Core.List.{List}
+use mathlib.Core.List.{List, [], _∷_, _++_}
 use Rattle.sheet.specs.declared.Bus.{Bus}
 use Rattle.sheet.specs.declared.State.{State}
 use Rattle.sheet.specs.World.{World, world}
-use Rattle.sheet.specs.Handler.{tally}
+use Rattle.sheet.specs.Handler.{Event, happened, nothing, _⊕_, tally}
 use Rattle.calls.specs.Calls.{Interrupts}
 use Rattle.engine.specs.Steps.{Steps}
-use Rattle.theorems.specs.Repeat.{Engine}
+use Rattle.theorems.specs.Repeat.{Block, single, singles, Engine}
 
 -- `engine::step` was called in w and answered, as its contract has it
 pub data StepCall (w : World) : ℕ → World → Bus → Type 0 where
@@ -23,3 +23,13 @@ pub data InterruptCall (vector : ℕ) (maskable : Bool) (w : World) : ℕ → Wo
 -- it shows the bus cycles
 abbrev pub code : Engine
 code = record { Shown = Bus; of = tally; Step = StepCall; Interrupt = InterruptCall }
+
+-- the bus cycles of calls together
+unfoldable pub total : List Bus → Bus
+total [] = nothing
+total (n ∷ l) = n ⊕ total l
+
+-- all that happens in j single primitives
+unfoldable pub eventsOf : Block → World → ℕ → List Event
+eventsOf i w zero = []
+eventsOf i w (suc j) = eventsOf i w j ++ happened (single i (singles i w j))
