@@ -5,83 +5,10 @@ use io::write_all;
 use libc::STDERR_FILENO;
 use libc::STDIN_FILENO;
 use libc::STDOUT_FILENO;
-use sheet::Bus;
 use sheet::State;
 
-// ---- the calls
-
-// What the four calls on the machine come to.
-struct Done {
-    number: u8,
-    steps: u32,
-    state: State,
-    bus: Bus,
-}
-
-// How many steps a step with this answer did.
-fn steps_of(number: u8) -> u32 {
-    if number == 0 { 1 } else { 0 }
-}
-
-fn stepped(s: State, ram: &mut [u8], rom: &[u8], tape: &[u8], log: &mut [u8]) -> Done {
-    let a = engine::step(s, ram, rom, tape, log);
-    let state = a.state;
-    let bus = a.bus;
-    Done {
-        number: a.number,
-        steps: steps_of(a.number),
-        state,
-        bus,
-    }
-}
-
-fn ran(s: State, ram: &mut [u8], rom: &[u8], tape: &[u8], log: &mut [u8], c: Case) -> Done {
-    let a = engine::run(s, ram, rom, tape, log, c.budget);
-    let state = a.state;
-    let bus = a.bus;
-    Done {
-        number: a.number,
-        steps: a.steps as u32,
-        state,
-        bus,
-    }
-}
-
-fn interrupted(s: State, ram: &mut [u8], rom: &[u8], tape: &[u8], log: &[u8], c: Case) -> Done {
-    let a = calls::interrupt(s, ram, rom, tape, log, c.vector, c.maskable);
-    let state = a.state;
-    let bus = a.bus;
-    Done {
-        number: a.number,
-        steps: 0,
-        state,
-        bus,
-    }
-}
-
-fn reset() -> Done {
-    Done {
-        number: 0,
-        steps: 0,
-        state: calls::reset(),
-        bus: Bus { cycles: 0 },
-    }
-}
-
-fn called(s: State, ram: &mut [u8], rom: &[u8], tape: &[u8], log: &mut [u8], c: Case) -> Done {
-    let call = c.call;
-    match call {
-        0 => stepped(s, ram, rom, tape, log),
-        1 => ran(s, ram, rom, tape, log, c),
-        2 => interrupted(s, ram, rom, tape, log, c),
-        _ => reset(),
-    }
-}
-
-// ---- results
-
 // An array's length is known where it is lent as one.
-fn write_call(out: &[u8; 58]) -> bool {
+fn write_result(out: &[u8; 58]) -> bool {
     write_all(STDOUT_FILENO, out)
 }
 
@@ -89,45 +16,19 @@ fn write_reading(out: &[u8; 17]) -> bool {
     write_all(STDOUT_FILENO, out)
 }
 
-fn answer_call(s: State, ram: &mut [u8], rom: &[u8], tape: &[u8], log: &mut [u8], c: Case) -> bool {
-    let d = called(s, ram, rom, tape, log, c);
-    let state = d.state;
-    let mut out = [0; 58];
-    caseform::put_call(&mut out, d.number, d.steps, d.bus.cycles, state);
-    caseform::put_sums(&mut out, casebytes::sum(ram), casebytes::sum(log));
-    write_call(&out)
-}
-
-fn answer_reading(log: &[u8], at: usize) -> bool {
-    let e = logreader::read_log(log, at);
-    let mut out = [0; 17];
-    caseform::put_entry(&mut out, e);
-    write_reading(&out)
-}
-
 fn answer(s: State, ram: &mut [u8], rom: &[u8], tape: &[u8], log: &mut [u8], c: Case) -> bool {
     if c.call == 4 {
-        answer_reading(log, s.log)
+        let out = casecall::reading(log, s.log);
+        write_reading(&out)
     } else {
-        answer_call(s, ram, rom, tape, log, c)
+        let out = casecall::result(s, ram, rom, tape, log, c);
+        write_result(&out)
     }
 }
-
-// ---- the stream
 
 // Whether standard input had as many bytes as the buffer.
 fn read_whole(buffer: &mut [u8]) -> bool {
     io::read_full(STDIN_FILENO, buffer) == buffer.len()
-}
-
-fn lay_out(fill: u8, ram: &mut [u8], rom: &mut [u8], log: &mut [u8], patches: &[u8]) {
-    casebytes::fill(ram, fill);
-    casebytes::fill(rom, fill);
-    casebytes::fill(log, fill);
-    let n = patches.len() / 6;
-    casebytes::patch_all(ram, 0, patches, n);
-    casebytes::patch_all(rom, 1, patches, n);
-    casebytes::patch_all(log, 2, patches, n);
 }
 
 // The rest of a case, over buffers of the lengths that it names.
@@ -146,7 +47,9 @@ fn serve(
     if !read_whole(tape) {
         return false;
     }
-    lay_out(c.fill, ram, rom, log, patches);
+    casecall::lay_out(ram, c.fill, 0, patches);
+    casecall::lay_out(rom, c.fill, 1, patches);
+    casecall::lay_out(log, c.fill, 2, patches);
     answer(s, ram, rom, tape, log, c)
 }
 

@@ -1,0 +1,9 @@
+use borrow.Author.Needs.{needs}
+use Rattle.casecall.proofs.reset.Statement.{statement}
+use Rattle.casecall.proofs.reset.Tie as tie
+
+returns : tie.Need-returns
+returns c = cc
+
+pub reset-spec : {M : Type 1} → statement M
+reset-spec = tie.close (tie.spec (λ c κs. search needs) returns)
