@@ -2,6 +2,7 @@ pub mod RepeatRuns
 pub mod RepeatCount
 pub mod RepeatFile
 pub mod RepeatPrimitive
+pub mod RepeatTree
 pub mod RepeatTurn
 pub mod RepeatSingles
 pub mod Repeat

@@ -12,6 +12,7 @@ use borrow.Author.Tests.{le-leb}
 use Rattle.sheet.specs.declared.Instr.the-variants.{Blocks}
 use Rattle.sheet.specs.Width.{pick, sub16}
 use Rattle.sheet.specs.Registers.{CW, IX, IY, DS1, PS, PC, fileOf, segment}
+use Rattle.sheet.specs.Memory.{byteAt}
 use Rattle.sheet.specs.Log.{rule}
 use Rattle.sheet.specs.World.{World, pswOf}
 use Rattle.sheet.specs.Handler.{Event, Outcome, refused, done, kept, run, happened}
@@ -373,3 +374,8 @@ pub blocks-of-cw : (i : Block) (w : World) (a : ℕ) → Kept i w (elements i w)
 blocks-of-cw i w a (own-byte c h e) = own-byte c h e
 blocks-of-cw i w a (source-byte j h s e) = let le = elements-le i w in source-byte j (omega arith) s e
 blocks-of-cw i w a (target-byte j h s e) = let le = elements-le i w in target-byte j (omega arith) s e
+
+-- where services put back all memory, or none falls between, all memory is as the single primitives leave it
+pub whole-memory : (E : Engine) → Demand3 E → (i : Block) (w : World) → Taken E i w → 0 < elements i w → (l : List (E .Shown)) (v : World)
+    → Own E (λ a. Unit) w (elements i w) l v → (a : ℕ) → byteAt (v .ram) (v .rom) a ≡ byteAt (singles i w (elements i w) .ram) (singles i w (elements i w) .rom) a
+whole-memory E d i w t pos l v x a = d i w t (λ a. Unit) (λ a k. tt) .at-the-end l v pos x .kept a tt

@@ -185,7 +185,7 @@ made-keeps Outm w x y f e = keeps-all e
 moved-dir : (w : Bool) (x y : ℕ) (n o : ℕ) → onward (flagOf (settled keeps (column (difference w x y false .column)) n) DIR) w o ≡ onward (flagOf n DIR) w o
 moved-dir w x y n o = ap (λ d. onward d w o) (flag-settled keeps (column (difference w x y false .column)) n DIR)
 
-no-false : _≡_ {A = Bool} false true → ⊥
+pub no-false : _≡_ {A = Bool} false true → ⊥
 no-false e = let z : _≡_ {A = ℕ} 0 1 = cc in omega arith
 
 pub made-ix : (k : Primitive) (w : Bool) (x y : ℕ) → T (hasSource k) → ofMemory k ≡ true → (f : List ℕ) → length f ≡ 14

@@ -4,7 +4,6 @@ use mathlib.Core.Path.{_≡_, refl, ap}
 use mathlib.Core.Bool.{Bool, true, false}
 use mathlib.Core.Logic.{_≢_}
 use mathlib.Core.List.{List, [], _∷_}
-use native.Mathlib.Omega.{arith}
 use lib.Dec.{T, ltb, leb}
 use borrow.Author.Tests.{ltb-true}
 use lib.ListN.{length, getD}
@@ -25,7 +24,7 @@ use Rattle.sheet.specs.Reach.{Covers, Within, Spares}
 use Rattle.sheet.proofs.Lent.{Leaves, leaves, writeMem-length}
 use Rattle.sheet.proofs.Rests.{Same, same-refused, same-done, rests, HoldsAt, spared}
 use Rattle.theorems.specs.Repeat.{ofMemory, hasSource, hasTarget, writesTarget, placed}
-use Rattle.theorems.proofs.RepeatFile.{made, stepped, compared, loaded, made-placed, placed-reg, placed-reads, placed-segment}
+use Rattle.theorems.proofs.RepeatFile.{no-false, made, stepped, compared, loaded, made-placed, placed-reg, placed-reads, placed-segment}
 
 -- the element due in each block
 abbrev pub sourceDue : Bool → ℕ → (f ram rom : List ℕ) → ℕ
@@ -68,9 +67,6 @@ trace Outm b seg f ram rom = []
 abbrev pub worked : Primitive → Bool → ℕ → World → World
 worked k b seg w =
     world (withFile (w .state) (fileAfter k b seg (w .state .file) (w .ram) (w .rom))) (ramAfter k b seg (w .state .file) (w .ram) (w .rom)) (w .rom) (w .tape) (w .log)
-
-no-false : _≡_ {A = Bool} false true → ⊥
-no-false e = let z : _≡_ {A = ℕ} 0 1 = cc in omega arith
 
 pub primitive-is : (k : Primitive) (b : Bool) (seg : ℕ) (w : World) → ofMemory k ≡ true
     → run (primitive k b seg) w ≡ done tt (worked k b seg w) (trace k b seg (w .state .file) (w .ram) (w .rom))
