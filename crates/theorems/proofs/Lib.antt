@@ -11,6 +11,7 @@ pub mod RepeatExample
 pub mod RepeatWrong
 pub mod RepeatCode
 pub mod RepeatCalls
+pub mod RepeatEnds
 pub mod RepeatSmall
 pub mod BoundsRules
 pub mod BoundsOperands

@@ -53,7 +53,7 @@ pub record Ready (w : World) : Type 0 where
   pub up : w .state .halted ≡ false
 
 -- numbers 1, 2 and 8 were not due
-ready : {O : Type 0} {of : List Event → O} {w v : World} {o : O} → Tells of w (step w) 0 v o → Ready w
+pub ready : {O : Type 0} {of : List Event → O} {w v : World} {o : O} → Tells of w (step w) 0 v o → Ready w
 unfolding step stepBy awake
 ready {w = w} h = go (fits w) (sound w) (w .state .halted) refl refl refl
   where
@@ -102,7 +102,7 @@ unfolding step
 step-good {w} {v} {t} s e = step-leaves kept w v t (s .whole) e
 
 module _ (E : Engine) (F : Faithful E) where
-  call-leaves : {w v : World} → Sound w → Call E w v → Good w v
+  pub call-leaves : {w v : World} → Sound w → Call E w v → Good w v
   unfolding interrupt
   call-leaves {w} s (stepped o h) = go (F .step-tells h)
     where

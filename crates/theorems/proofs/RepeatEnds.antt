@@ -1,0 +1,131 @@
+-- In code a repeat ends under any plan of services: RAM stays a memory of bytes, and over such every step is answered.
+use Prim.Native.Nat.{ℕ, _+_, _/_, _%_, _≤_, _<_}
+use mathlib.Core.Path.{_≡_, refl, sym, subst}
+use mathlib.Core.Bool.{Bool, true, false}
+use mathlib.Core.List.{List}
+use native.Mathlib.Decide.{decLt, ℕ-discrete}
+use native.Mathlib.Nat.{min-le-right}
+use native.Mathlib.Omega.{arith}
+use lib.ListN.{length, getD, set}
+use lib.Seq.{getD-set-same, getD-set-other, set-out}
+use Rattle.sheet.specs.declared.Bus.{Bus}
+use Rattle.sheet.specs.Memory.{physical, next, writeMem}
+use Rattle.sheet.specs.Log.{rule}
+use Rattle.sheet.specs.World.{World}
+use Rattle.sheet.specs.Act.{Act}
+use Rattle.sheet.specs.Handler.{Event, done, kept, runBy}
+use Rattle.sheet.specs.Step.{counted, stepping, step, interrupting, interrupt}
+use Rattle.sheet.proofs.Lent.{Leaves, leaves, Kept, Sound, Good, keeps-all, good-kept}
+use Rattle.sheet.proofs.StepLaws.{sound-is, begins, enters}
+use Rattle.theorems.specs.Bounds.{Bytes}
+use Rattle.theorems.specs.Repeat as statement
+use Rattle.theorems.specs.Repeat.{Block, elements, Engine, Call, stepped, interrupted, Calls, no-call, and-then, Gap, quiet, service, Own, begun, next-own, Taken}
+use Rattle.theorems.specs.RepeatEngines.{Tells, accepts, refuses}
+use Rattle.theorems.specs.RepeatCode.{code}
+use Rattle.theorems.proofs.Repeat.{Faithful, ready, call-leaves}
+use Rattle.theorems.proofs.RepeatCode.{code-faithful, code-demand3, code-answers}
+
+-- ---- every call leaves bytes
+
+set-bytes : (l : List ℕ) (i v : ℕ) → v ≤ 255 → Bytes l → Bytes (set l i v)
+set-bytes l i v h b n = go (ℕ-discrete n i) (decLt i (length l))
+  where
+    go : Dec (n ≡ i) → Dec (i < length l) → getD (set l i v) n 0 ≤ 255
+    go (yes e) (yes k) = rw (e, getD-set-same l i v 0 k) h
+    go (yes e) (no k) = rw (set-out l i v (omega arith)) (b n)
+    go (no e) k = rw (getD-set-other l i n v 0 e) (b n)
+
+write-bytes : (w : Bool) (ram : List ℕ) (g o v : ℕ) → Bytes ram → Bytes (writeMem w ram g o v)
+unfolding writeMem
+write-bytes false ram g o v b = set-bytes ram (physical g o) (v % 256) (omega arith) b
+write-bytes true ram g o v b =
+    set-bytes (set ram (physical g o) (v % 256)) (physical g (next o)) (v / 256 % 256) (omega arith) (set-bytes ram (physical g o) (v % 256) (omega arith) b)
+
+record GoodBytes (w v : World) : Type 0 where
+  good : Good w v
+  bytes : Bytes (v .ram)
+
+bytes-kept : (w : World) → Kept (GoodBytes w)
+bytes-kept w =
+    let k = good-kept w in
+    record {
+      in-tape = λ v q. k .in-tape v (q .good);
+      at-register = λ v n x q. record { good = k .at-register v n x (q .good); bytes = q .bytes };
+      at-psw = λ v u c q. record { good = k .at-psw v u c (q .good); bytes = q .bytes };
+      at-store = λ v b g o x q. record { good = k .at-store v b g o x (q .good); bytes = write-bytes b (v .ram) g o x (q .bytes) };
+      at-record = λ v m b h r q. record { good = k .at-record v m b h r (q .good); bytes = q .bytes };
+      at-halt = λ v b q. record { good = k .at-halt v b (q .good); bytes = q .bytes };
+    }
+
+left-of : {w v : World} {t : List Event} → Leaves {A = Unit {0}} (GoodBytes w) (done tt v t) → Bytes (v .ram)
+left-of (leaves q) = q .bytes
+
+tree-bytes : (p : Act Unit) (w v : World) (t : List Event) → Sound w → Bytes (w .ram) → runBy kept p w ≡ done tt v t → Bytes (v .ram)
+tree-bytes p w v t s b e =
+    let g : Good w w = record { lent = record { ram-long = refl; rom-same = refl; tape-same = refl; log-long = refl }; sound = s } in
+    left-of (rw e at (keeps-all (GoodBytes w) (bytes-kept w) p kept w (record { good = g; bytes = b })))
+
+counted-sound : (w : World) → Sound w → Sound (counted w)
+unfolding counted
+counted-sound w s = record { whole = s .whole; fixed = s .fixed; tape-in = s .tape-in; log-in = s .log-in; count-in = min-le-right (w .state .count + 1) (rule .ceiling) }
+
+step-bytes : {w v : World} {t : List Event} → Sound w → Bytes (w .ram) → step w ≡ done tt v t → Bytes (v .ram)
+unfolding step counted
+step-bytes {w} {v} {t} s b e =
+    let a = begins kept w v t e in
+    tree-bytes (stepping (a .instr) (a .size)) (counted w) v t (counted-sound w s) b (a .ran)
+
+interrupt-bytes : (x : ℕ) (m : Bool) {w v : World} {t : List Event} → Sound w → Bytes (w .ram) → interrupt x m w ≡ done tt v t → Bytes (v .ram)
+unfolding interrupt
+interrupt-bytes x m {w} {v} {t} s b e = tree-bytes (interrupting x) w v t s b (enters kept x m w v t e .ran)
+
+-- ---- so code can be called again and again
+
+-- a world that code can be called in
+record Callable (w : World) : Type 0 where
+  sound : Sound w
+  ram : Bytes (w .ram)
+  rom : Bytes (w .rom)
+
+module _ (E : Engine) (F : Faithful E) where
+  call-callable : {w v : World} → Callable w → Call E w v → Callable v
+  call-callable {w} {v} q c =
+      let g = call-leaves E F (q .sound) c in
+      record { sound = g .sound; ram = go c; rom = rw (g .lent .rom-same) (q .rom) }
+    where
+      stepping-so : {v : World} {o : E .Shown} → Tells (E .of) w (step w) 0 v o → Bytes (v .ram)
+      stepping-so (accepts e) = step-bytes (q .sound) (q .ram) e
+      stepping-so (refuses e) = q .ram
+
+      calling-so : (x : ℕ) (m : Bool) {v : World} {o : E .Shown} → Tells (E .of) w (interrupt x m w) 0 v o → Bytes (v .ram)
+      calling-so x m (accepts e) = interrupt-bytes x m (q .sound) (q .ram) e
+      calling-so x m (refuses e) = q .ram
+
+      go : {v : World} → Call E w v → Bytes (v .ram)
+      go (stepped o h) = stepping-so (F .step-tells h)
+      go (interrupted x m o r h) = calling-so x m (F .interrupt-tells h)
+
+  calls-callable : {w v : World} → Callable w → Calls E w v → Callable v
+  calls-callable q no-call = q
+  calls-callable q (and-then u c) = call-callable (calls-callable q u) c
+
+  gap-callable : {K : ℕ → Type 0} {w v : World} → Callable w → Gap E K w v → Callable v
+  gap-callable q (quiet e) = subst Callable (sym e) q
+  gap-callable q (service s r) = calls-callable (call-callable q (interrupted (s .vector) (s .maskable) (s .shown) (s .in-range) (s .taken))) (s .served)
+
+  own-callable : {K : ℕ → Type 0} {w v : World} {j : ℕ} {l : List (E .Shown)} → Callable w → Own E K w j l v → Callable v
+  own-callable q begun = q
+  own-callable q (next-own {o = o} x g s) = call-callable (gap-callable (own-callable q x) g) (stepped o s)
+
+-- under any plan of services the kth step comes
+pub code-ends : (i : Block) (w : World) → Taken code i w → Bytes (w .ram) → Bytes (w .rom) → (K : ℕ → Type 0) → ((a : ℕ) → statement.Kept i w (elements i w) a → K a)
+    → ((j : ℕ) (l : List Bus) (v : World) → j < elements i w → Own code K w j l v → (v′ : World) × Gap code K v v′)
+    → (l : List Bus) × (v : World) × Own code K w (elements i w) l v
+code-ends i w t ram rom K inside plan =
+    let (v, o, h) = t .accepted in
+    let q : Callable w = record { sound = sound-is w (t .whole) (ready (code-faithful .step-tells h) .good); ram = ram; rom = rom } in
+    code-demand3 i w t K inside .comes-to-an-end
+    (λ j l v h x.
+    let (v′, g) = plan j l v h x in
+    let c = gap-callable code code-faithful (own-callable code code-faithful q x) g in
+    (v′, g, code-answers v′ (c .sound .whole) (c .ram) (c .rom)))
