@@ -20,7 +20,8 @@ use Rattle.sheet.specs.Handler.{runBy, run, tally}
 use Rattle.sheet.specs.Operand.{regValue}
 use Rattle.sheet.specs.Arithmetic.{resulting, difference}
 use Rattle.sheet.specs.Block.{stepIndex, sourceElement, targetElement, setTarget, primitive}
-use Rattle.theorems.specs.Repeat.{Block, single, singles, firstOr, elements, walk, shown}
+use Rattle.sheet.specs.Step.{codeAt}
+use Rattle.theorems.specs.Repeat.{Block, single, singles, firstOr, elements, walk, InElement, low, high, shown}
 use Rattle.theorems.specs.RepeatCode.{code}
 
 -- AW, CW, IX, IY and PSW; the other registers are 0
@@ -54,6 +55,12 @@ found n l = elements (repeating Cmpm false) (machine 9 n 0 0 0xf002 l)
 searches : (found 4 (7 ∷ 8 ∷ 9 ∷ 9 ∷ []) ≡ 3) × (found 4 (7 ∷ 8 ∷ 7 ∷ 8 ∷ []) ≡ 4) × (found 0 (9 ∷ []) ≡ 0)
 unfolding elements firstOr singles single run runBy act._>>=_ primitive stepIndex targetElement regValue readReg readMem byteAt difference resulting settled wrapOf signOf evenOf ones
 searches = (refl, refl, refl)
+
+-- a word at 1000:FFFF has its bytes at 1FFFFh and 10000h; the next one up is at offset 1, the next byte down from 0 at FFFFh; the
+-- second byte of an instruction at 0:FFFF is at 0
+wraps : InElement 0x1000 0xffff 0x1ffff true × InElement 0x1000 0xffff 0x10000 true × (walk false true 0xffff 1 ≡ 1) × (walk true false 0 1 ≡ 0xffff) × (codeAt 0 0xffff 1 ≡ 0)
+unfolding walk
+wraps = (low refl, high refl, refl, refl, refl)
 
 -- element j of a block: the index plus j elements, or with DIR 1 minus j elements, modulo 65,536
 pub block-at : (down b : Bool) (o j : ℕ) → o < 65536 → walk down b o j ≡ (o + j * pick down (65536 - bytesOf b) (bytesOf b)) % 65536
