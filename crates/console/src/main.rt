@@ -10,6 +10,8 @@ use libc::STDERR_FILENO;
 use schedule::Fault;
 use session::Session;
 ghost use Rattle.io.specs.Counts.{Counts};
+ghost use Rattle.sheet.specs.Step.{reset};
+ghost use Rattle.session.specs.Turns.{begun, Played};
 
 const STEPS: u64 = 10000000;
 
@@ -23,7 +25,7 @@ fn call_buffer() -> [u64; 4096] {
     [0; 4096]
 }
 
-// Plays a session to its end.
+// Plays a session from reset on to its end.
 fn play(
     ram: &mut [u8],
     rom: &[u8],
@@ -31,7 +33,9 @@ fn play(
     log: &mut [u8],
     schedule: &[u64],
     limit: u64,
-) -> Session {
+) -> Session
+    ensures { λ r. ⌜ Played (now (schedule .entry)) limit (begun reset) (now (ram .entry)) (now (rom .entry)) (now (tape .entry)) (now (log .entry)) r (now (ram .exit)) (now (log .exit)) ⌝ }
+{
     let mut s = session::begin(calls::reset());
     let mut clock = files::start();
     let mut pieces = u64::MAX;
