@@ -50,6 +50,8 @@ use Rattle.ports.proofs.Told.{ports-end}
 use Rattle.do_block.specs.declared.Portless.{Portless}
 use Rattle.do_block.specs.Portless.{primitiveOf}
 use Rattle.do_control.specs.Controls as do-control
+use Rattle.do_port.specs.declared.Ported.{Ported}
+use Rattle.execute.specs.declared.Performed.{Performed}
 use Rattle.execute.specs.Performs.{Performs}
 
 -- ---- any tree
@@ -99,8 +101,9 @@ control-is t f g ram rom tape log q halts h = record {
 -- ---- blocks
 
 module _ (k : Primitive) (w : Bool) (seg : ℕ) (r : Repeat) (start : ℕ) (f g ram ram′ rom tape log log′ : List ℕ) (q q′ : Progress) (number : ℕ) (n : Bus) where
-  pub no-port : (i : Portless) → k ≡ primitiveOf i → OnMemory Unit (block (primitiveOf i) w seg r start) f ram rom tt g ram′ n 4 → OnPorts (block k w seg r start) f ram rom tape log q 0 g ram′ log q n 4
-  no-port i e h = rw e (ports-end _ f ram rom tape log q g ram′ log q n 4 (h .most) (λ b. h .at (stateOf f b q) tape log))
+  pub no-port : (i : Portless) (x : Ported) → k ≡ primitiveOf i → OnMemory Unit (block (primitiveOf i) w seg r start) f ram rom tt g ram′ n 4 → x ≡ record { number = 0; progress = q; bus = n }
+      → OnPorts (block k w seg r start) f ram rom tape log q (x .number) g ram′ log (x .progress) (x .bus) 4
+  no-port i x e h u = rw (e, u) (ports-end _ f ram rom tape log q g ram′ log q n 4 (h .most) (λ b. h .at (stateOf f b q) tape log))
 
   pub at-inm : k ≡ primitives.Inm → OnPorts (block primitives.Inm w seg r start) f ram rom tape log q number g ram′ log′ q′ n 4 → OnPorts (block k w seg r start) f ram rom tape log q number g ram′ log′ q′ n 4
   at-inm e h = rw e h
@@ -108,66 +111,94 @@ module _ (k : Primitive) (w : Bool) (seg : ℕ) (r : Repeat) (start : ℕ) (f g 
   pub at-outm : k ≡ primitives.Outm → OnPorts (block primitives.Outm w seg r start) f ram rom tape log q number g ram′ log′ q′ n 4 → OnPorts (block k w seg r start) f ram rom tape log q number g ram′ log′ q′ n 4
   at-outm e h = rw e h
 
--- ---- each group
+-- ---- which tree an instruction is
 
-module _ (i : Instr) (start : ℕ) (f g ram ram′ rom tape log : List ℕ) (q : Progress) (n : Bus) where
-  pub at-transfers : (t : Transfer) → i ≡ Transfers t → OnMemory Unit (transfer t) f ram rom tt g ram′ n 4 → Performs (operation i start) f ram rom tape log q 0 false false g ram′ log q n
+module _ (i : Instr) (start : ℕ) where
+  pub of-transfers : (t : Transfer) → i ≡ Transfers t → operation i start ≡ untrapped (transfer t)
   unfolding operation
-  at-transfers t e h = rw e (quiet-is (transfer t) f g ram ram′ rom tape log q n 4 (lit≤ tt) h)
+  of-transfers t e = rw e
 
-  pub at-calculates : (t : Arithmetic) → i ≡ Calculates t → OnMemory Unit (calculate t) f ram rom tt g ram′ n 6 → Performs (operation i start) f ram rom tape log q 0 false false g ram′ log q n
+  pub of-calculates : (t : Arithmetic) → i ≡ Calculates t → operation i start ≡ untrapped (calculate t)
   unfolding operation
-  at-calculates t e h = rw e (quiet-is (calculate t) f g ram ram′ rom tape log q n 6 (lit≤ tt) h)
+  of-calculates t e = rw e
 
-  pub at-multiplies : (t : Multiply) (b : Bool) → i ≡ Multiplies t → OnMemory Bool (multiply t) f ram rom b g ram′ n 10 → Performs (operation i start) f ram rom tape log q 0 b false g ram′ log q n
+  pub of-converts : (t : Convert) → i ≡ Converts t → operation i start ≡ untrapped (convert t)
   unfolding operation
-  at-multiplies t b e h = rw e (worked-is (multiply t) f g ram ram′ rom tape log q b n 10 (lit≤ tt) h)
+  of-converts t e = rw e
 
-  pub at-converts : (t : Convert) → i ≡ Converts t → OnFile Unit (convert t) f tt g → Performs (operation i start) f ram rom tape log q 0 false false g ram log q nothing
+  pub of-shifts : (kind : Shift) (word : Bool) (to : Place) (places : Places) → i ≡ Shifts kind word to places → operation i start ≡ untrapped (shift kind word to places)
   unfolding operation
-  at-converts t e h = rw e (quiet-is (convert t) f g ram ram rom tape log q nothing 0 (lit≤ tt) (on-memory ram rom 0 h))
+  of-shifts kind word to places e = rw e
 
-  pub at-shifts : (kind : Shift) (word : Bool) (to : Place) (places : Places) → i ≡ Shifts kind word to places → OnMemory Unit (shift kind word to places) f ram rom tt g ram′ n 4 → Performs (operation i start) f ram rom tape log q 0 false false g ram′ log q n
+  pub of-bits : (op : Bit) (word : Bool) (to : Place) (number : Amount) → i ≡ Bits op word to number → operation i start ≡ untrapped (bits op word to number)
   unfolding operation
-  at-shifts kind word to places e h = rw e (quiet-is (shift kind word to places) f g ram ram′ rom tape log q n 4 (lit≤ tt) h)
+  of-bits op word to number e = rw e
 
-  pub at-bits : (op : Bit) (word : Bool) (to : Place) (number : Amount) → i ≡ Bits op word to number → OnMemory Unit (bits op word to number) f ram rom tt g ram′ n 4 → Performs (operation i start) f ram rom tape log q 0 false false g ram′ log q n
+  pub of-decimals : (t : Decimal) → i ≡ Decimals t → operation i start ≡ untrapped (decimal t)
   unfolding operation
-  at-bits op word to number e h = rw e (quiet-is (bits op word to number) f g ram ram′ rom tape log q n 4 (lit≤ tt) h)
+  of-decimals t e = rw e
 
-  pub at-decimals : (t : Decimal) → i ≡ Decimals t → OnMemory Unit (decimal t) f ram rom tt g ram′ n 384 → Performs (operation i start) f ram rom tape log q 0 false false g ram′ log q n
+  pub of-fields : (t : Field) → i ≡ Fields t → operation i start ≡ untrapped (field t)
   unfolding operation
-  at-decimals t e h = rw e (quiet-is (decimal t) f g ram ram′ rom tape log q n 384 (lit≤ tt) h)
+  of-fields t e = rw e
 
-  pub at-fields : (t : Field) → i ≡ Fields t → OnMemory Unit (field t) f ram rom tt g ram′ n 8 → Performs (operation i start) f ram rom tape log q 0 false false g ram′ log q n
+  pub of-stacks : (t : Stack) → i ≡ Stacks t → operation i start ≡ untrapped (stack t)
   unfolding operation
-  at-fields t e h = rw e (quiet-is (field t) f g ram ram′ rom tape log q n 8 (lit≤ tt) h)
+  of-stacks t e = rw e
 
-  pub at-stacks : (t : Stack) → i ≡ Stacks t → OnMemory Unit (stack t) f ram rom tt g ram′ n 1020 → Performs (operation i start) f ram rom tape log q 0 false false g ram′ log q n
+  pub of-branches : (t : Branch) → i ≡ Branches t → operation i start ≡ untrapped (branch t)
   unfolding operation
-  at-stacks t e h = rw e (quiet-is (stack t) f g ram ram′ rom tape log q n 1020 (lit≤ tt) h)
+  of-branches t e = rw e
 
-  pub at-branches : (t : Branch) → i ≡ Branches t → OnMemory Unit (branch t) f ram rom tt g ram′ n 8 → Performs (operation i start) f ram rom tape log q 0 false false g ram′ log q n
+  pub of-tests : (t : Conditional) → i ≡ Tests t → operation i start ≡ untrapped (conditional t)
   unfolding operation
-  at-branches t e h = rw e (quiet-is (branch t) f g ram ram′ rom tape log q n 8 (lit≤ tt) h)
+  of-tests t e = rw e
 
-  pub at-tests : (t : Conditional) → i ≡ Tests t → OnFile Unit (conditional t) f tt g → Performs (operation i start) f ram rom tape log q 0 false false g ram log q nothing
+  pub of-blocks : (k : Primitive) (w : Bool) (seg : ℕ) (r : Repeat) → i ≡ Blocks k w seg r → operation i start ≡ untrapped (block k w seg r start)
   unfolding operation
-  at-tests t e h = rw e (quiet-is (conditional t) f g ram ram rom tape log q nothing 0 (lit≤ tt) (on-memory ram rom 0 h))
+  of-blocks k w seg r e = rw e
 
-  pub at-interrupts : (t : Interrupt) (b : Bool) → i ≡ Interrupts t → OnMemory Bool (interrupts t) f ram rom b g ram′ n 12 → Performs (operation i start) f ram rom tape log q 0 b false g ram′ log q n
+  pub of-ports : (t : Io) → i ≡ Ports t → operation i start ≡ untrapped (ports t)
   unfolding operation
-  at-interrupts t b e h = rw e (worked-is (interrupts t) f g ram ram′ rom tape log q b n 12 (lit≤ tt) h)
+  of-ports t e = rw e
 
-  pub at-blocks : (k : Primitive) (w : Bool) (seg : ℕ) (r : Repeat) (log′ : List ℕ) (q′ : Progress) (number : ℕ) → i ≡ Blocks k w seg r
-      → OnPorts (block k w seg r start) f ram rom tape log q number g ram′ log′ q′ n 4 → Performs (operation i start) f ram rom tape log q number false false g ram′ log′ q′ n
+  pub of-controls : (t : Control) → i ≡ Controls t → operation i start ≡ untrapped (control t)
   unfolding operation
-  at-blocks k w seg r log′ q′ number e h = rw e (ported-is (block k w seg r start) f g ram ram′ rom tape log q log′ q′ number n 4 (lit≤ tt) h)
+  of-controls t e = rw e
 
-  pub at-ports : (t : Io) (log′ : List ℕ) (q′ : Progress) (number : ℕ) → i ≡ Ports t → OnPorts (ports t) f ram rom tape log q number g ram log′ q′ n 2 → Performs (operation i start) f ram rom tape log q number false false g ram log′ q′ n
+  pub of-multiplies : (t : Multiply) → i ≡ Multiplies t → operation i start ≡ multiply t
   unfolding operation
-  at-ports t log′ q′ number e h = rw e (ported-is (ports t) f g ram ram rom tape log q log′ q′ number n 2 (lit≤ tt) h)
+  of-multiplies t e = rw e
 
-  pub at-controls : (t : Control) (halts : Bool) → i ≡ Controls t → do-control.Controls t f halts g → Performs (operation i start) f ram rom tape log q 0 false halts g ram log q nothing
+  pub of-interrupts : (t : Interrupt) → i ≡ Interrupts t → operation i start ≡ interrupts t
   unfolding operation
-  at-controls t halts e h = rw e (control-is t f g ram rom tape log q halts h)
+  of-interrupts t e = rw e
+
+-- ---- what the code hands on
+
+abbrev pub Comes : Act Bool → (f ram rom tape log : List ℕ) → Progress → Performed → (g ram′ log′ : List ℕ) → Type 0
+Comes o f ram rom tape log q x g ram′ log′ = Performs o f ram rom tape log q (x .number) (x .trapped) (x .halts) g ram′ log′ (x .progress) (x .bus)
+
+abbrev pub handed : ℕ → Bool → Bool → Progress → Bus → Performed
+handed number trapped halts q n = record { number = number; trapped = trapped; halts = halts; progress = q; bus = n }
+
+module _ (o : Act Bool) (f g ram ram′ rom tape log : List ℕ) (q : Progress) (x : Performed) where
+  pub at-quiet : (p : Act Unit) (n : Bus) (k : ℕ) → o ≡ untrapped p → k ≤ 1020 → OnMemory Unit p f ram rom tt g ram′ n k → x ≡ handed 0 false false q n
+      → Comes o f ram rom tape log q x g ram′ log
+  at-quiet p n k e m h u = rw (e, u) (quiet-is p f g ram ram′ rom tape log q n k m h)
+
+  pub at-silent : (p : Act Unit) → o ≡ untrapped p → OnFile Unit p f tt g → x ≡ handed 0 false false q nothing → Comes o f ram rom tape log q x g ram log
+  at-silent p e h u = rw (e, u) (quiet-is p f g ram ram rom tape log q nothing 0 (lit≤ tt) (on-memory ram rom 0 h))
+
+  pub at-told : (p : Act Bool) (b : Bool) (n : Bus) (k : ℕ) → o ≡ p → k ≤ 1020 → OnMemory Bool p f ram rom b g ram′ n k → x ≡ handed 0 b false q n
+      → Comes o f ram rom tape log q x g ram′ log
+  at-told p b n k e m h u = rw (e, u) (worked-is p f g ram ram′ rom tape log q b n k m h)
+
+  pub at-through : (p : Act Unit) (r : Ported) (log′ : List ℕ) (k : ℕ) → o ≡ untrapped p → k ≤ 1020
+      → OnPorts p f ram rom tape log q (r .number) g ram′ log′ (r .progress) (r .bus) k → x ≡ handed (r .number) false false (r .progress) (r .bus)
+      → Comes o f ram rom tape log q x g ram′ log′
+  at-through p r log′ k e m h u = rw (e, u) (ported-is p f g ram ram′ rom tape log q log′ (r .progress) (r .number) (r .bus) k m h)
+
+pub at-control : (o : Act Bool) (f g ram rom tape log : List ℕ) (q : Progress) (t : Control) (halts : Bool) → o ≡ untrapped (control t) → do-control.Controls t f halts g
+    → Performs o f ram rom tape log q 0 false halts g ram log q nothing
+at-control o f g ram rom tape log q t halts e h = rw e (control-is t f g ram rom tape log q halts h)

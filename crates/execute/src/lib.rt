@@ -8,10 +8,22 @@ use sheet::Primitive;
 use sheet::Progress;
 use sheet::Repeat;
 ghost use mathlib.Core.Path.{_≡_};
+ghost use mathlib.Core.Bool.{false};
 ghost use Rattle.sheet.specs.Block as tree;
 ghost use Rattle.sheet.specs.Execute.{operation};
 ghost use Rattle.ports.specs.Accesses.{OnPorts};
 ghost use Rattle.execute.specs.Performs.{Performs};
+
+// A block instruction that used no port.
+fn portless(q: Progress, b: Bus) -> Ported
+    ensures { λ r. ⌜ r ≡ record { number = 0; progress = q; bus = b } ⌝ }
+{
+    Ported {
+        number: 0,
+        progress: q,
+        bus: b,
+    }
+}
 
 // A block instruction, with or without ports.
 fn blocks(
@@ -30,46 +42,26 @@ fn blocks(
     ensures { λ r. ⌜ OnPorts (tree.block primitive word seg repeat start) (now (file .entry)) (now (ram .entry)) (now (rom .entry)) (now (tape .entry)) (now (log .entry)) q (r .number) (now (file .exit)) (now (ram .exit)) (now (log .exit)) (r .progress) (r .bus) 4 ⌝ }
 {
     match primitive {
-        Primitive::Movbk => {
-            let b = do_block::block(file, ram, rom, Portless::Movbk, word, seg, repeat, start);
-            Ported {
-                number: 0,
-                progress: q,
-                bus: b,
-            }
-        }
-        Primitive::Cmpbk => {
-            let b = do_block::block(file, ram, rom, Portless::Cmpbk, word, seg, repeat, start);
-            Ported {
-                number: 0,
-                progress: q,
-                bus: b,
-            }
-        }
-        Primitive::Cmpm => {
-            let b = do_block::block(file, ram, rom, Portless::Cmpm, word, seg, repeat, start);
-            Ported {
-                number: 0,
-                progress: q,
-                bus: b,
-            }
-        }
-        Primitive::Ldm => {
-            let b = do_block::block(file, ram, rom, Portless::Ldm, word, seg, repeat, start);
-            Ported {
-                number: 0,
-                progress: q,
-                bus: b,
-            }
-        }
-        Primitive::Stm => {
-            let b = do_block::block(file, ram, rom, Portless::Stm, word, seg, repeat, start);
-            Ported {
-                number: 0,
-                progress: q,
-                bus: b,
-            }
-        }
+        Primitive::Movbk => portless(
+            q,
+            do_block::block(file, ram, rom, Portless::Movbk, word, seg, repeat, start),
+        ),
+        Primitive::Cmpbk => portless(
+            q,
+            do_block::block(file, ram, rom, Portless::Cmpbk, word, seg, repeat, start),
+        ),
+        Primitive::Cmpm => portless(
+            q,
+            do_block::block(file, ram, rom, Portless::Cmpm, word, seg, repeat, start),
+        ),
+        Primitive::Ldm => portless(
+            q,
+            do_block::block(file, ram, rom, Portless::Ldm, word, seg, repeat, start),
+        ),
+        Primitive::Stm => portless(
+            q,
+            do_block::block(file, ram, rom, Portless::Stm, word, seg, repeat, start),
+        ),
         Primitive::Inm => do_port_block::stream(
             file,
             ram,
@@ -108,6 +100,41 @@ pub struct Performed {
     pub bus: Bus,
 }
 
+// One that says itself whether it took a trap.
+fn told(q: Progress, trapped: bool, b: Bus) -> Performed
+    ensures { λ r. ⌜ r ≡ record { number = 0; trapped = trapped; halts = false; progress = q; bus = b } ⌝ }
+{
+    Performed {
+        number: 0,
+        trapped,
+        halts: false,
+        progress: q,
+        bus: b,
+    }
+}
+
+// One that takes no trap and uses no port.
+fn quiet(q: Progress, b: Bus) -> Performed
+    ensures { λ r. ⌜ r ≡ record { number = 0; trapped = false; halts = false; progress = q; bus = b } ⌝ }
+{
+    told(q, false, b)
+}
+
+// One that may have used a port.
+fn through(r: Ported) -> Performed
+    ensures { λ x. ⌜ x ≡ record { number = r .number; trapped = false; halts = false; progress = r .progress; bus = r .bus } ⌝ }
+{
+    let p = r.progress;
+    let b = r.bus;
+    Performed {
+        number: r.number,
+        trapped: false,
+        halts: false,
+        progress: p,
+        bus: b,
+    }
+}
+
 // An instruction that began at the offset `start`; PC stands on the next one.
 pub fn perform(
     file: &mut [u16; 14],
@@ -122,137 +149,41 @@ pub fn perform(
     ensures { λ r. ⌜ Performs (operation i start) (now (file .entry)) (now (ram .entry)) (now (rom .entry)) (now (tape .entry)) (now (log .entry)) q (r .number) (r .trapped) (r .halts) (now (file .exit)) (now (ram .exit)) (now (log .exit)) (r .progress) (r .bus) ⌝ }
 {
     match i {
-        Instr::Transfers(t) => {
-            let b = do_move::transfer(file, ram, rom, t);
-            Performed {
-                number: 0,
-                trapped: false,
-                halts: false,
-                progress: q,
-                bus: b,
-            }
-        }
-        Instr::Calculates(t) => {
-            let b = do_arith::calculate(file, ram, rom, t);
-            Performed {
-                number: 0,
-                trapped: false,
-                halts: false,
-                progress: q,
-                bus: b,
-            }
-        }
+        Instr::Transfers(t) => quiet(q, do_move::transfer(file, ram, rom, t)),
+        Instr::Calculates(t) => quiet(q, do_arith::calculate(file, ram, rom, t)),
         Instr::Multiplies(t) => {
             let w = do_multiply::multiply(file, ram, rom, t);
             let b = w.bus;
-            Performed {
-                number: 0,
-                trapped: w.trapped,
-                halts: false,
-                progress: q,
-                bus: b,
-            }
+            told(q, w.trapped, b)
         }
         Instr::Converts(t) => {
             do_convert::convert(file, t);
-            Performed {
-                number: 0,
-                trapped: false,
-                halts: false,
-                progress: q,
-                bus: Bus { cycles: 0 },
-            }
+            quiet(q, Bus { cycles: 0 })
         }
         Instr::Shifts {
             kind,
             word,
             to,
             places,
-        } => {
-            let b = do_shift::shift(file, ram, rom, kind, word, to, places);
-            Performed {
-                number: 0,
-                trapped: false,
-                halts: false,
-                progress: q,
-                bus: b,
-            }
-        }
+        } => quiet(q, do_shift::shift(file, ram, rom, kind, word, to, places)),
         Instr::Bits {
             op,
             word,
             to,
             number,
-        } => {
-            let b = do_bit::bits(file, ram, rom, op, word, to, number);
-            Performed {
-                number: 0,
-                trapped: false,
-                halts: false,
-                progress: q,
-                bus: b,
-            }
-        }
-        Instr::Decimals(t) => {
-            let b = do_decimal::decimal(file, ram, rom, t);
-            Performed {
-                number: 0,
-                trapped: false,
-                halts: false,
-                progress: q,
-                bus: b,
-            }
-        }
-        Instr::Fields(t) => {
-            let b = do_field::field(file, ram, rom, t);
-            Performed {
-                number: 0,
-                trapped: false,
-                halts: false,
-                progress: q,
-                bus: b,
-            }
-        }
-        Instr::Stacks(t) => {
-            let b = do_stack::stack(file, ram, rom, t);
-            Performed {
-                number: 0,
-                trapped: false,
-                halts: false,
-                progress: q,
-                bus: b,
-            }
-        }
-        Instr::Branches(t) => {
-            let b = do_branch::branch(file, ram, rom, t);
-            Performed {
-                number: 0,
-                trapped: false,
-                halts: false,
-                progress: q,
-                bus: b,
-            }
-        }
+        } => quiet(q, do_bit::bits(file, ram, rom, op, word, to, number)),
+        Instr::Decimals(t) => quiet(q, do_decimal::decimal(file, ram, rom, t)),
+        Instr::Fields(t) => quiet(q, do_field::field(file, ram, rom, t)),
+        Instr::Stacks(t) => quiet(q, do_stack::stack(file, ram, rom, t)),
+        Instr::Branches(t) => quiet(q, do_branch::branch(file, ram, rom, t)),
         Instr::Tests(t) => {
             do_conditional::conditional(file, t);
-            Performed {
-                number: 0,
-                trapped: false,
-                halts: false,
-                progress: q,
-                bus: Bus { cycles: 0 },
-            }
+            quiet(q, Bus { cycles: 0 })
         }
         Instr::Interrupts(t) => {
             let w = do_interrupt::interrupt(file, ram, rom, t);
             let b = w.bus;
-            Performed {
-                number: 0,
-                trapped: w.trapped,
-                halts: false,
-                progress: q,
-                bus: b,
-            }
+            told(q, w.trapped, b)
         }
         Instr::Blocks {
             primitive,
@@ -273,27 +204,11 @@ pub fn perform(
                 repeat,
                 start,
             );
-            let p = r.progress;
-            let b = r.bus;
-            Performed {
-                number: r.number,
-                trapped: false,
-                halts: false,
-                progress: p,
-                bus: b,
-            }
+            through(r)
         }
         Instr::Ports(t) => {
             let r = do_port::access(file, ram, rom, tape, log, q, t);
-            let p = r.progress;
-            let b = r.bus;
-            Performed {
-                number: r.number,
-                trapped: false,
-                halts: false,
-                progress: p,
-                bus: b,
-            }
+            through(r)
         }
         Instr::Controls(t) => {
             let h = do_control::control(file, t);
