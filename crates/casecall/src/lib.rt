@@ -3,7 +3,6 @@ use caseform::Case;
 use sheet::Bus;
 use sheet::State;
 ghost use mathlib.Core.Path.{_≡_};
-ghost use Rattle.sheet.specs.Step as definition;
 ghost use Rattle.calls.specs.Calls.{Interrupts};
 ghost use Rattle.engine.specs.Steps.{Steps};
 ghost use Rattle.engine.specs.Runs.{Runs};

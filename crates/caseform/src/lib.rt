@@ -6,8 +6,7 @@ use casebytes::word_at;
 use sheet::Entry;
 use sheet::State;
 ghost use mathlib.Core.Path.{_≡_};
-ghost use Prim.Native.Nat.{_<_, _≤_};
-ghost use lib.ListN.{length};
+ghost use Prim.Native.Nat.{_<_};
 ghost use Rattle.caseform.specs.Form.{placeOf, fileOf, stateOf, caseOf, withFile, withAnswer, withPlaces, withCall, withSums, withRecord, withEntry};
 
 // ---- the header

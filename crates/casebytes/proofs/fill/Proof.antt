@@ -4,7 +4,6 @@ use Prim.Native.Nat.{_≤_, _-_}
 use mathlib.Core.Path.{_≡_, refl}
 use native.Mathlib.Omega.{arith}
 use lib.ListN.{length, take, replicate, length-set}
-use borrow.Author.Needs.{needs}
 use Rattle.casebytes.proofs.Laws.{filled, all-filled}
 use Rattle.casebytes.proofs.fill.Statement.{statement}
 use Rattle.casebytes.proofs.fill.Tie as tie

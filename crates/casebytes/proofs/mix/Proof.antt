@@ -2,7 +2,6 @@ use native.Mathlib.Omega.{arith}
 use Rattle.casebytes.specs.Buffers.{mixed}
 use Rattle.casebytes.proofs.Laws.{mixed-fits}
 use borrow.Author.Needs.{needs}
-use borrow.Author.Needs.{needs}
 use Rattle.casebytes.proofs.mix.Statement.{statement}
 use Rattle.casebytes.proofs.mix.Tie as tie
 

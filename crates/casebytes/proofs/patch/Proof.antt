@@ -1,6 +1,5 @@
 use borrow.Author.Needs.{needs}
 use Rattle.casebytes.proofs.Laws.{patch-left, patch-made}
-use borrow.Author.Needs.{needs}
 use Rattle.casebytes.proofs.patch.Statement.{statement}
 use Rattle.casebytes.proofs.patch.Tie as tie
 

@@ -4,7 +4,6 @@ use Prim.Native.Nat.{_≤_, _-_}
 use mathlib.Core.Path.{_≡_, refl, ap, _∙_}
 use native.Mathlib.Omega.{arith}
 use lib.ListN.{length}
-use borrow.Author.Needs.{needs}
 use Rattle.casebytes.specs.Buffers.{patched}
 use Rattle.casebytes.proofs.Laws.{patched-length, patched-more}
 use Rattle.casebytes.proofs.patch_all.Statement.{statement}

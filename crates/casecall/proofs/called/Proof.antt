@@ -1,6 +1,5 @@
 use Rattle.casecall.proofs.Laws.{by-interrupt, by-reset, by-run, by-step}
 use borrow.Author.Needs.{needs}
-use borrow.Author.Needs.{needs}
 use Rattle.casecall.proofs.called.Statement.{statement}
 use Rattle.casecall.proofs.called.Tie as tie
 

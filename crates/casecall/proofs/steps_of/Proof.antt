@@ -1,4 +1,3 @@
-use borrow.Author.Needs.{needs}
 use borrow.Author.Tests.{eq-eqb, ne-eqb}
 use Rattle.casecall.proofs.steps_of.Statement.{statement}
 use Rattle.casecall.proofs.steps_of.Tie as tie

@@ -2,7 +2,6 @@ use Prim.Native.Nat.{_≤_, _-_}
 use mathlib.Core.Path.{_≡_, refl}
 use Rattle.caseform.specs.Form.{fileOf}
 use Rattle.caseform.proofs.Laws.{file-more}
-use borrow.Author.Needs.{needs}
 use native.Mathlib.Omega.{arith}
 use Rattle.caseform.proofs.file_of.Statement.{statement}
 use Rattle.caseform.proofs.file_of.Tie as tie

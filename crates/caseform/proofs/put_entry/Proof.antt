@@ -1,6 +1,5 @@
 use Rattle.caseform.proofs.Laws.{entry-beyond, entry-end, entry-malformed, entry-record}
 use borrow.Author.Needs.{needs}
-use borrow.Author.Needs.{needs}
 use Rattle.caseform.proofs.put_entry.Statement.{statement}
 use Rattle.caseform.proofs.put_entry.Tie as tie
 

@@ -2,7 +2,6 @@ use Prim.Native.Nat.{_≤_, _-_}
 use mathlib.Core.Path.{_≡_, refl}
 use Rattle.caseform.specs.Form.{withFile}
 use Rattle.caseform.proofs.Laws.{with-more}
-use borrow.Author.Needs.{needs}
 use native.Mathlib.Omega.{arith}
 use Rattle.caseform.proofs.put_file.Statement.{statement}
 use Rattle.caseform.proofs.put_file.Tie as tie
