@@ -1,4 +1,4 @@
-# For scripts that run the built programs from outside, from whatever folder.
+# For scripts that run the built programs from outside.
 
 # the kit that `rt` belongs to; its folder has what programs are run with
 kit=${RATTLE_HOME:-$(dirname "$(dirname "$(readlink -f "$(command -v rt)")")")}

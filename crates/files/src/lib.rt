@@ -85,13 +85,14 @@ pub fn load(index: usize, out: &mut [u8]) -> Loaded
     load_file(&path[..k], out)
 }
 
-// Whether an argument is empty.
+// Whether an argument is empty; one that is missing or too long is not.
 pub fn is_left_out(index: usize) -> bool {
     let mut word = io::buffer();
-    os::arg(index, &mut word) == 0
+    let k = os::arg(index, &mut word);
+    (k == 0) & (os::errno() == 0)
 }
 
-// The number that an argument is.
+// The number that an argument is; one that is missing or too long is none.
 pub fn number(index: usize) -> u64 {
     let mut word = io::buffer();
     let k = os::arg(index, &mut word);
@@ -109,6 +110,15 @@ pub struct Output {
 pub fn open(index: usize) -> Output {
     let mut path = io::buffer();
     let k = os::arg(index, &mut path);
+    if os::errno() != 0 {
+        say(b"v30: ");
+        os::fail(b"the log's name");
+        return Output {
+            ok: false,
+            wanted: true,
+            fd: 0,
+        };
+    }
     if k == 0 {
         return Output {
             ok: true,
