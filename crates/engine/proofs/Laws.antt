@@ -10,9 +10,10 @@ use borrow.Author.Tests.{eqb-true, eqb-false}
 use Rattle.sheet.specs.declared.Bus.{Bus}
 use Rattle.sheet.specs.declared.State.{State}
 use Rattle.sheet.specs.declared.Instr.{Instr}
+use Rattle.sheet.specs.declared.Progress.{Progress}
 use Rattle.sheet.specs.Width.{pick}
 use Rattle.sheet.specs.Registers.{PS, PC}
-use Rattle.sheet.specs.World.{World, world}
+use Rattle.sheet.specs.World.{World, world, stateOf}
 use Rattle.sheet.specs.Handler.{run, kept, runBy, nothing}
 use Rattle.sheet.specs.Reading.{Read, known, unknown, scan}
 use Rattle.sheet.specs.FirstByte.{instruction}
@@ -24,7 +25,7 @@ use Rattle.answers.specs.Answer.{answerOf, Decodes}
 use Rattle.calls.specs.Calls.{checkNumber}
 use Rattle.stepper.specs.Proceeds.{Proceeds}
 use Rattle.engine.specs.declared.Advanced.{Advanced}
-use Rattle.engine.specs.Steps.{refusedAt, Advances, Steps}
+use Rattle.engine.specs.Steps.{placesOf, refusedAt, Advances, Steps}
 
 never : true ≡ false → ⊥
 never e = let z : _≡_ {A = ℕ} 0 1 = cc in omega arith
@@ -42,30 +43,39 @@ awake-known : (w : World) (i : Instr) (n : ℕ) → w .state .halted ≡ false �
 unfolding awake decoded
 awake-known w i n h e = rw (h, e)
 
-module _ (s : State) (ram rom tape log : List ℕ) where
-  refused-so : (k : ℕ) → seen (awake kept (world s ram rom tape log)) ≡ stops k → Advances s ram rom tape log false k s ram log nothing
-  refused-so k e = record { most = zero-le; is = e; zero = λ q. cc; same = λ q. (refl, refl, refl, refl) }
+refused-so : (s : State) (ram rom tape log : List ℕ) (k : ℕ) → seen (awake kept (world s ram rom tape log)) ≡ stops k → Advances s ram rom tape log false k s ram log nothing
+refused-so s ram rom tape log k e = record { most = zero-le; is = e; zero = λ q. cc; same = λ q. (refl, refl, refl, refl) }
 
-  pub advances-halted : (a : Advanced) → s .halted ≡ true → a ≡ refusedAt s 8 → Advances s ram rom tape log (a .done) (a .number) (a .state) ram log (a .bus)
+module _ (f : List ℕ) (halted : Bool) (q : Progress) (ram rom tape log : List ℕ) where
+  pub advances-halted : (a : Advanced) → halted ≡ true → a ≡ refusedAt halted q 8
+      → Advances (stateOf f halted q) ram rom tape log (a .done) (a .number) (stateOf f (a .halted) (a .progress)) ram log (a .bus)
   unfolding awake
-  advances-halted a h e = rw e (refused-so 8 (rw h))
+  advances-halted a h e = rw e (refused-so (stateOf f halted q) ram rom tape log 8 (rw h))
 
-  module _ (ps pc : ℕ) (a : ps ≡ getD (s .file) PS 0) (b : pc ≡ getD (s .file) PC 0) (h : s .halted ≡ false) (r : Decoded) (d : Decodes instruction (codeByte ram rom ps pc) 0 r) where
-    pub advances-unknown : (k : ℕ) (x : Advanced) → r ≡ Unknown k → x ≡ refusedAt s k → Advances s ram rom tape log (x .done) (x .number) (x .state) ram log (x .bus)
+  module _ (ps pc : ℕ) (a : ps ≡ getD f PS 0) (b : pc ≡ getD f PC 0) (h : halted ≡ false) (r : Decoded) (d : Decodes instruction (codeByte ram rom ps pc) 0 r) where
+    pub advances-unknown : (k : ℕ) (x : Advanced) → r ≡ Unknown k → x ≡ refusedAt halted q k
+        → Advances (stateOf f halted q) ram rom tape log (x .done) (x .number) (stateOf f (x .halted) (x .progress)) ram log (x .bus)
     unfolding awake
-    advances-unknown k x e f = rw f (refused-so k (rw h (reads-unknown _ _ k (rw (a, b) at (d .is) ∙ e))))
+    advances-unknown k x e u = rw u (refused-so (stateOf f halted q) ram rom tape log k (rw h (reads-unknown _ _ k (rw (a, b) at (d .is) ∙ e))))
 
-    pub advances-known : (i : Instr) (size number : ℕ) (s′ : State) (ram′ log′ : List ℕ) (n : Bus) → r ≡ Known i size
-        → Proceeds i size s ram rom tape log number s′ ram′ log′ n → Advances s ram rom tape log (eqb number 0) number s′ ram′ log′ n
+    pub advances-known : (i : Instr) (size number : ℕ) (halted′ : Bool) (q′ : Progress) (f′ ram′ log′ : List ℕ) (n : Bus) → r ≡ Known i size
+        → Proceeds i size f ram rom tape log q number halted′ q′ f′ ram′ log′ n
+        → Advances (stateOf f halted q) ram rom tape log (eqb number 0) number (stateOf f′ halted′ q′) ram′ log′ n
     unfolding exec run
-    advances-known i size number s′ ram′ log′ n e p = go (eqb number 0) refl
+    advances-known i size number halted′ q′ f′ ram′ log′ n e p = rw h (go (eqb number 0) refl)
       where
-        known-at : awake kept (world s ram rom tape log) ≡ runBy kept (stepping i size) (counted (world s ram rom tape log))
-        known-at = awake-known (world s ram rom tape log) i size h (reads-known _ i size (rw (a, b) at (d .is) ∙ e))
+        w : World
+        w = world (stateOf f false q) ram rom tape log
 
-        go : (t : Bool) → eqb number 0 ≡ t → Advances s ram rom tape log t number s′ ram′ log′ n
-        go true q = let z = eqb-true number 0 q in record { most = p .most; is = rw known-at (p .done z h .is); zero = λ t. z; same = λ t. absurd (never t) }
-        go false q = let z = eqb-false number 0 q in record { most = p .most; is = rw known-at (p .stop z h .is); zero = λ t. cc; same = λ t. p .same z }
+        known-at : awake kept w ≡ runBy kept (stepping i size) (counted w)
+        known-at = awake-known w i size refl (reads-known _ i size (rw (a, b) at (d .is) ∙ e))
+
+        go : (t : Bool) → eqb number 0 ≡ t → Advances (stateOf f false q) ram rom tape log t number (stateOf f′ halted′ q′) ram′ log′ n
+        go true y = let z = eqb-true number 0 y in record { most = p .most; is = rw known-at (p .done z .is); zero = λ t. z; same = λ t. absurd (never t) }
+        go false y =
+            let z = eqb-false number 0 y in
+            let (u, x, g, k, l, m) = p .same z in
+            record { most = p .most; is = rw known-at (p .stop z .is); zero = λ t. cc; same = λ t. (rw (u, k, l), x, g, m) }
 
 -- what a step reports, by what its checks come to
 report-by : (w : World) (f g : Bool) → fits w ≡ f → sound w ≡ g
@@ -104,8 +114,10 @@ module _ (s : State) (ram rom tape log : List ℕ) (number : ℕ) (e : number �
       go true false a b = report-by w true false a b ∙ rw (e, a, b)
       go false g a b = report-by w false g a b ∙ rw (e, a)
 
-  pub steps : (done : Bool) (r : ℕ) (s′ : State) (ram′ log′ : List ℕ) (n : Bus) → number ≡ 0 → Advances s ram rom tape log done r s′ ram′ log′ n → Steps s ram rom tape log r s′ ram′ log′ n
+  pub steps : (q q′ : Progress) (done halted : Bool) (r : ℕ) (x : State) (f ram′ log′ : List ℕ) (n : Bus) → number ≡ 0 → q ≡ placesOf s → x ≡ stateOf f halted q′
+      → Advances (stateOf (s .file) (s .halted) q) ram rom tape log done r (stateOf f halted q′) ram′ log′ n → Steps s ram rom tape log r x ram′ log′ n
   unfolding w
-  steps done r s′ ram′ log′ n z p =
-      let q = passed w (sym e ∙ z) in
-      record { most = p .most; is = report-by w true true (q .0) (q .1) ∙ report-advanced s ram rom tape log done r s′ ram′ log′ n p }
+  steps q q′ done halted r x f ram′ log′ n z u v p =
+      let c = passed w (sym e ∙ z) in
+      let a : Advances s ram rom tape log done r x ram′ log′ n = rw v (rw u at p) in
+      record { most = p .most; is = report-by w true true (c .0) (c .1) ∙ report-advanced s ram rom tape log done r x ram′ log′ n a }

@@ -3,23 +3,21 @@ use Prim.Native.Nat.{ℕ, suc, _+_, _-_, _*_, _≤_, _<_, zero-le}
 use mathlib.Core.Bool.{Bool, true, false, not}
 use mathlib.Core.List.{List, [], _∷_, _++_}
 use mathlib.Core.Path.{_≡_, refl, sym, ap, _∙_}
-use native.Mathlib.Nat.{le-refl}
 use native.Mathlib.Omega.{arith}
-use lib.Dec.{leb}
 use lib.ListN.{length}
 use borrow.Author.Tests.{le-leb}
 use Rattle.sheet.specs.declared.Bus.{Bus}
 use Rattle.sheet.specs.declared.State.{State}
-use Rattle.sheet.specs.Width.{pick}
-use Rattle.sheet.specs.World.{World, world}
-use Rattle.sheet.specs.Handler.{Event, Outcome, refused, done, kept, nothing, _⊕_, cost, tally}
-use Rattle.sheet.specs.Contract.{Seen, stops, ends, seen}
+use Rattle.sheet.specs.declared.Progress.{Progress}
+use Rattle.sheet.specs.World.{World, world, stateOf}
+use Rattle.sheet.specs.Handler.{Event, Outcome, refused, done, kept, nothing, _⊕_, tally}
+use Rattle.sheet.specs.Contract.{stops, ends, seen}
 use Rattle.sheet.specs.Step.{fits, sound, awake, stepBy}
 use Rattle.sheet.specs.Run.{Ran, ran, more, onward, stepsBy, runsBy, runs, RunReport, runReport, ranReport}
 use Rattle.sheet.proofs.Lent.{Sound, Good}
 use Rattle.sheet.proofs.StepLaws.{step-leaves}
 use Rattle.calls.specs.Calls.{checkNumber}
-use Rattle.engine.specs.Steps.{Advances}
+use Rattle.engine.specs.Steps.{placesOf, Advances}
 use Rattle.engine.specs.Runs.{Runs}
 use Rattle.engine.proofs.Laws.{passed}
 
@@ -104,18 +102,26 @@ before-none (runReport n w m b) =
     let c : b .cycles ≡ 0 + b .cycles = omega arith in
     rw (← a, ← c)
 
-module _ (s : State) (ram rom tape log : List ℕ) where
-  pub continues-none : length (s .file) ≡ 14 → checkNumber (world s ram rom tape log) ≡ 0 → Continues (world s ram rom tape log) (world s ram rom tape log) 0 0
-  continues-none h e =
-      let q = passed (world s ram rom tape log) e in
-      record {
-        accepted = e;
-        most = zero-le;
-        whole = h;
-        fit = q .0;
-        good = q .1;
-        rest = λ j. (let z : 0 + j ≡ j = omega arith in rw z (before-none (ranReport (stepsBy (λ i. kept) j (world s ram rom tape log)))));
-      }
+continues-start : (w : World) → length (w .state .file) ≡ 14 → checkNumber w ≡ 0 → Continues w w 0 0
+continues-start w h e =
+    let c = passed w e in
+    record {
+      accepted = e;
+      most = zero-le;
+      whole = h;
+      fit = c .0;
+      good = c .1;
+      rest = λ j. (let z : 0 + j ≡ j = omega arith in rw z (before-none (ranReport (stepsBy (λ i. kept) j w))));
+    }
+
+-- the run keeps the state in its parts
+pub continues-none : (s : State) (q : Progress) (ram rom tape log : List ℕ) → length (s .file) ≡ 14 → checkNumber (world s ram rom tape log) ≡ 0 → q ≡ placesOf s
+    → Continues (world (stateOf (s .file) (s .halted) q) ram rom tape log) (world (stateOf (s .file) (s .halted) q) ram rom tape log) 0 0
+continues-none s q ram rom tape log h e u = rw u (continues-start (world s ram rom tape log) h e)
+
+pub of-parts : {budget : ℕ} {s x : State} {q : Progress} {ram rom tape log ram′ log′ : List ℕ} {number k : ℕ} {n : Bus} → q ≡ placesOf s
+    → Runs budget (stateOf (s .file) (s .halted) q) ram rom tape log number x ram′ log′ k n → Runs budget s ram rom tape log number x ram′ log′ k n
+of-parts u r = rw u at r
 
 module _ {w : World} {s : State} {ram rom tape log : List ℕ} {k c : ℕ} (p : Continues w (world s ram rom tape log) k c) where
   v : World
@@ -178,21 +184,25 @@ runs-on : (budget : ℕ) (w : World) → checkNumber w ≡ 0 → runs budget w �
 unfolding runs runsBy
 runs-on budget w e = let q = passed w e in rw (q .0, q .1)
 
-module _ {budget : ℕ} {s : State} {ram rom tape log : List ℕ} {s₁ : State} {ram₁ log₁ : List ℕ} {k c : ℕ} (p : Continues (world s ram rom tape log) (world s₁ ram₁ rom tape log₁) k c) where
-  pub runs-stop : {t : Bool} {number : ℕ} {s′ : State} {ram′ log′ : List ℕ} {n : Bus} → k < budget → t ≡ false → Advances s₁ ram₁ rom tape log₁ t number s′ ram′ log′ n
-      → Runs budget s ram rom tape log number s₁ ram′ log′ k (record { cycles = c })
+module _ {budget : ℕ} {s : State} {ram rom tape log f ram₁ log₁ : List ℕ} {halted : Bool} {q : Progress} {k c : ℕ}
+    (p : Continues (world s ram rom tape log) (world (stateOf f halted q) ram₁ rom tape log₁) k c) where
+  -- the state that is handed back is put together from the registers after the refused call, which left them
+  pub runs-stop : {t : Bool} {number : ℕ} {halted′ : Bool} {q′ : Progress} {x : State} {f′ ram′ log′ : List ℕ} {n : Bus} → k < budget → t ≡ false
+      → Advances (stateOf f halted q) ram₁ rom tape log₁ t number (stateOf f′ halted′ q′) ram′ log′ n → x ≡ stateOf f′ halted q
+      → Runs budget s ram rom tape log number x ram′ log′ k (record { cycles = c })
   unfolding v
-  runs-stop {number = number} h q a =
-      let (x, y, z, u) = a .same q in
+  runs-stop {number = number} h e a u =
+      let (s-same, ram-same, log-same, no-cycles) = a .same e in
+      let file-same = ap (λ (y : State). y .file) s-same in
       record {
         within = omega arith;
         most = p .most;
-        is = rw (y, z) (ap ranReport (runs-on budget _ (p .accepted)) ∙ continues-stop p budget number h (rw q at (a .is)));
+        is = rw (u, file-same, ram-same, log-same) (ap ranReport (runs-on budget _ (p .accepted)) ∙ continues-stop p budget number h (rw e at (a .is)));
       }
 
-  pub runs-end : k ≤ budget → budget ≤ k → Runs budget s ram rom tape log 0 s₁ ram₁ log₁ k (record { cycles = c })
+  pub runs-end : {x : State} → k ≤ budget → budget ≤ k → x ≡ stateOf f halted q → Runs budget s ram rom tape log 0 x ram₁ log₁ k (record { cycles = c })
   unfolding v
-  runs-end h l = record { within = h; most = p .most; is = ap ranReport (runs-on budget _ (p .accepted)) ∙ continues-end p budget (omega arith) }
+  runs-end h l u = record { within = h; most = p .most; is = rw u (ap ranReport (runs-on budget _ (p .accepted)) ∙ continues-end p budget (omega arith)) }
 
 refused-at-once : (budget : ℕ) (w : World) (number : ℕ) → number ≡ checkNumber w → (number ≡ 0 → ⊥) → ranReport (runs budget w) ≡ runReport number w 0 nothing
 unfolding runs runsBy tally

@@ -5,14 +5,18 @@ use mathlib.Core.List.{List}
 use mathlib.Core.Path.{_≡_}
 use Rattle.sheet.specs.declared.Bus.{Bus}
 use Rattle.sheet.specs.declared.State.{State}
+use Rattle.sheet.specs.declared.Progress.{Progress}
 use Rattle.sheet.specs.World.{World, world}
 use Rattle.sheet.specs.Handler.{kept, nothing}
 use Rattle.sheet.specs.Contract.{Seen, stops, ends, seen, report}
 use Rattle.sheet.specs.Step.{awake, stepReport}
 use Rattle.engine.specs.declared.Advanced.{Advanced}
 
-abbrev pub refusedAt : State → ℕ → Advanced
-refusedAt s number = record { done = false; number = number; state = s; bus = nothing }
+abbrev pub placesOf : State → Progress
+placesOf s = record { tape = s .tape; log = s .log; count = s .count }
+
+abbrev pub refusedAt : Bool → Progress → ℕ → Advanced
+refusedAt halted q number = record { done = false; number = number; halted = halted; progress = q; bus = nothing }
 
 -- what is seen of a step that is done, or that is refused by a number
 abbrev pub seenBy : (done : Bool) (number : ℕ) → World → Bus → Seen Unit

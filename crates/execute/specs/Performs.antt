@@ -10,9 +10,9 @@ use Rattle.sheet.specs.Act.{Act}
 use Rattle.sheet.specs.Handler.{nothing}
 use Rattle.sheet.specs.Contract.{Ends, Stops}
 
--- it ends, hands on whether it took a trap, and sets the mark where `halts` says so; or it refuses, and nothing that is lent to others has changed
+-- it ends, hands on whether it took a trap, and sets the mark where `halts` says so; or it refuses, and nothing that it was lent has changed
 pub record Performs (p : Act Bool) (f ram rom tape log : List ℕ) (q : Progress) (number : ℕ) (trapped halts : Bool) (f′ ram′ log′ : List ℕ) (q′ : Progress) (n : Bus) : Type 0 where
   pub most : n .cycles ≤ 1020
   pub done : number ≡ 0 → (h : Bool) → Ends Bool p (world (stateOf f h q) ram rom tape log) trapped (world (stateOf f′ (halts || h) q′) ram′ rom tape log′) n
   pub stop : (number ≡ 0 → ⊥) → (h : Bool) → Stops Bool p (world (stateOf f h q) ram rom tape log) number
-  pub same : (number ≡ 0 → ⊥) → (ram′ ≡ ram) × (log′ ≡ log) × (n ≡ nothing)
+  pub same : (number ≡ 0 → ⊥) → (f′ ≡ f) × (ram′ ≡ ram) × (log′ ≡ log) × (n ≡ nothing)

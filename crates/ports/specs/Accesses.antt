@@ -34,4 +34,4 @@ pub record OnPorts (p : Act Unit) (f ram rom tape log : List ℕ) (q : Progress)
   pub most : n .cycles ≤ top
   pub done : number ≡ 0 → (h : Bool) → Ends Unit p (world (stateOf f h q) ram rom tape log) tt (world (stateOf f′ h q′) ram′ rom tape log′) n
   pub stop : (number ≡ 0 → ⊥) → (h : Bool) → Stops Unit p (world (stateOf f h q) ram rom tape log) number
-  pub same : (number ≡ 0 → ⊥) → (ram′ ≡ ram) × (log′ ≡ log) × (n ≡ nothing)
+  pub same : (number ≡ 0 → ⊥) → (f′ ≡ f) × (ram′ ≡ ram) × (log′ ≡ log) × (n ≡ nothing)

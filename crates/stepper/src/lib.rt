@@ -1,17 +1,17 @@
 // One instruction of a machine that is awake: what it does, the single-step trap, and the count.
-use calls::Answer;
 use execute::Performed;
 use registers::PC;
 use registers::PSW;
 use sheet::Bus;
 use sheet::Instr;
 use sheet::Progress;
-use sheet::State;
 ghost use mathlib.Core.Path.{_≡_};
 ghost use Prim.Native.Nat.{_≤_, min, _+_};
 ghost use Rattle.sheet.specs.Log.{rule, risen};
 ghost use mathlib.Core.Bool.{not, _&&_};
-ghost use Rattle.stepper.specs.Proceeds.{begunAt, Finishes, Settles, Launches, Proceeds};
+ghost use Rattle.stepper.specs.Proceeds.{begunAt, Finishes, Settles, Proceeds};
+ghost use Rattle.sheet.specs.Execute.{execute};
+ghost use Rattle.execute.specs.Performs.{Performs};
 
 // The count once one more step is done.
 fn count_on(count: u32) -> u32
@@ -42,41 +42,43 @@ fn finish(file: &mut [u16; 14], ram: &mut [u8], rom: &[u8], traced: bool, halts:
     }
 }
 
-// Where tape, log and count stand when the instruction begins.
-fn begin(s: State) -> Progress
-    ensures { λ r. ⌜ r ≡ begunAt s ⌝ }
+// Where tape, log and count stand once the instruction has begun.
+fn begin(q: Progress) -> Progress
+    ensures { λ r. ⌜ r ≡ begunAt q ⌝ }
 {
     Progress {
-        tape: s.tape,
-        log: s.log,
-        count: count_on(s.count),
+        tape: q.tape,
+        log: q.log,
+        count: count_on(q.count),
     }
 }
 
+// What came of an instruction: its number, and where it is not refused the halted mark, the places and the bus.
+pub struct Stepped {
+    pub number: u8,
+    pub halted: bool,
+    pub progress: Progress,
+    pub bus: Bus,
+}
+
 // What follows an instruction that was not refused.
-fn settle(file: [u16; 14], ram: &mut [u8], rom: &[u8], traced: bool, p: Performed) -> Answer
+fn settle(file: &mut [u16; 14], ram: &mut [u8], rom: &[u8], traced: bool, p: Performed) -> Stepped
     requires { ⌜ p .bus .cycles ≤ 1020 ⌝ }
-    ensures { λ r. ⌜ Settles (traced && not (p .trapped)) (p .halts) (p .progress) (p .bus) file (now (ram .entry)) (now (rom .entry)) (r .number) (r .state) (now (ram .exit)) (r .bus) ⌝ }
+    ensures { λ r. ⌜ Settles (traced && not (p .trapped)) (p .halts) (p .progress) (p .bus) (now (file .entry)) (now (ram .entry)) (now (rom .entry)) (r .number) (r .halted) (r .progress) (now (file .exit)) (now (ram .exit)) (r .bus) ⌝ }
 {
-    let mut f = file;
     let to = p.progress;
-    let last = finish(&mut f, ram, rom, traced & !p.trapped, p.halts);
-    Answer {
+    let last = finish(file, ram, rom, traced & !p.trapped, p.halts);
+    Stepped {
         number: 0,
-        state: State {
-            file: f,
-            halted: last.halted,
-            tape: to.tape,
-            log: to.log,
-            count: to.count,
-        },
+        halted: last.halted,
+        progress: to,
         bus: Bus {
             cycles: p.bus.cycles + last.bus.cycles,
         },
     }
 }
 
-// An instruction of so many bytes, with PC moved past it.
+// An instruction of so many bytes, with PC moved past it, and back where it is refused.
 fn launch(
     file: &mut [u16; 14],
     ram: &mut [u8],
@@ -87,33 +89,38 @@ fn launch(
     i: Instr,
     size: u16,
 ) -> Performed
-    ensures { λ r. ⌜ Launches i size (now (file .entry)) (now (ram .entry)) (now (rom .entry)) (now (tape .entry)) (now (log .entry)) q (r .number) (r .trapped) (r .halts) (now (file .exit)) (now (ram .exit)) (now (log .exit)) (r .progress) (r .bus) ⌝ }
+    ensures { λ r. ⌜ Performs (execute i size) (now (file .entry)) (now (ram .entry)) (now (rom .entry)) (now (tape .entry)) (now (log .entry)) q (r .number) (r .trapped) (r .halts) (now (file .exit)) (now (ram .exit)) (now (log .exit)) (r .progress) (r .bus) ⌝ }
 {
     let start = file[PC];
     file[PC] = word::plus16(start, size);
-    execute::perform(file, ram, rom, tape, log, q, i, start)
+    let p = execute::perform(file, ram, rom, tape, log, q, i, start);
+    if p.number != 0 {
+        file[PC] = start;
+    }
+    p
 }
 
-// An instruction of so many bytes; the machine is not halted.
+// An instruction of so many bytes, of a machine that is not halted; a refusal leaves everything as it was.
 pub fn proceed(
-    s: State,
+    file: &mut [u16; 14],
     ram: &mut [u8],
     rom: &[u8],
     tape: &[u8],
     log: &mut [u8],
+    q: Progress,
     i: Instr,
     size: u16,
-) -> Answer
-    ensures { λ r. ⌜ Proceeds i size s (now (ram .entry)) (now (rom .entry)) (now (tape .entry)) (now (log .entry)) (r .number) (r .state) (now (ram .exit)) (now (log .exit)) (r .bus) ⌝ }
+) -> Stepped
+    ensures { λ r. ⌜ Proceeds i size (now (file .entry)) (now (ram .entry)) (now (rom .entry)) (now (tape .entry)) (now (log .entry)) q (r .number) (r .halted) (r .progress) (now (file .exit)) (now (ram .exit)) (now (log .exit)) (r .bus) ⌝ }
 {
-    let mut file = s.file;
     let traced = flags::brk(file[PSW]);
-    let q = begin(s);
-    let p = launch(&mut file, ram, rom, tape, log, q, i, size);
+    let begun = begin(q);
+    let p = launch(file, ram, rom, tape, log, begun, i, size);
     if p.number != 0 {
-        return Answer {
+        return Stepped {
             number: p.number,
-            state: s,
+            halted: false,
+            progress: q,
             bus: Bus { cycles: 0 },
         };
     }

@@ -1,10 +1,13 @@
-use Rattle.stepper.proofs.Laws.{launches}
+use Rattle.stepper.proofs.Laws.{launches-done, launches-stop}
 use borrow.Author.Needs.{needs}
 use Rattle.stepper.proofs.launch.Statement.{statement}
 use Rattle.stepper.proofs.launch.Tie as tie
 
 returns : tie.Need-returns
-returns c = search (launches, needs)
+returns c = search (launches-stop, needs)
+
+returns-2 : tie.Need-returns-2
+returns-2 c = search (launches-done, needs)
 
 pub launch-spec : {M : Type 1} → statement M
 launch-spec =
@@ -16,4 +19,8 @@ launch-spec =
     (λ c κs. search needs)
     (λ c. search needs)
     (λ c. search needs)
-    returns)
+    (λ c. search needs)
+    returns
+    (λ c. search needs)
+    (λ c. search needs)
+    returns-2)
