@@ -1,14 +1,13 @@
 -- TEST1, CLR1, SET1, NOT1 on one bit of an operand.
 use mathlib.Core.Bool.{Bool, true, false, not}
 use Prim.Native.Nat.{ℕ, _+_, _*_, _/_, _%_, _^_}
-use lib.Dec.{eqb}
 use Rattle.sheet.specs.declared.Bit.{Bit}
 use Rattle.sheet.specs.declared.Bit.the-variants.{Test1, Clr1, Set1, Not1}
 use Rattle.sheet.specs.declared.Place.{Place}
 use Rattle.sheet.specs.declared.Spot.{Spot}
 use Rattle.sheet.specs.declared.Amount.{Amount}
 use Rattle.sheet.specs.Width.{pick}
-use Rattle.sheet.specs.Psw.{unknown, becomes, Column, columns, bit}
+use Rattle.sheet.specs.Psw.{unknown, becomes, Column, columns, bit, at}
 use Rattle.sheet.specs.Act.{Act, _>>=_, _>>_, affect}
 use Rattle.sheet.specs.Operand.{locate, fetch, deposit, amountOf}
 
@@ -17,7 +16,7 @@ unfoldable pub bitNumber : Bool → ℕ → ℕ
 bitNumber w n = pick w (n % 16) (n % 8)
 
 unfoldable pub bitAt : ℕ → ℕ → Bool
-bitAt x n = eqb (x / 2 ^ n % 2) 1
+bitAt x n = at x (2 ^ n)
 
 -- x with bit n as given
 unfoldable pub withBit : ℕ → ℕ → Bool → ℕ

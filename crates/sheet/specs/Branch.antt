@@ -11,7 +11,7 @@ use Rattle.sheet.specs.declared.Branch.{Branch}
 use Rattle.sheet.specs.declared.Branch.the-variants.{CallNear, CallTo, CallFar, CallFarAt, Ret, RetPop, RetFar, RetFarPop, BrNear, BrShort, BrTo, BrFar, BrFarAt}
 use Rattle.sheet.specs.declared.Conditional.{Conditional}
 use Rattle.sheet.specs.declared.Conditional.the-variants.{If, Dbnzne, Dbnze, Dbnz, Bcwz}
-use Rattle.sheet.specs.Width.{pick, add16, sub16}
+use Rattle.sheet.specs.Width.{pick, odd, add16, sub16}
 use Rattle.sheet.specs.Psw.{Flag, CY, P, Z, S, OV}
 use Rattle.sheet.specs.Registers.{CW, SP, PS, PC}
 use Rattle.sheet.specs.Act.{Act, pure, _>>=_, _>>_, registers, _≔_, flag, peek}
@@ -151,7 +151,7 @@ conditions = flag OV ∷ flag CY ∷ flag Z ∷ either CY Z ∷ flag S ∷ flag 
 unfoldable pub condition : ℕ → Act Bool
 condition n = do
   b ← getD conditions (n / 2 % 8) (pure false)
-  pure (not (Bool·beq b (eqb (n % 2) 1)))
+  pure (not (Bool·beq b (odd n)))
 
 unfoldable pub jumpIf : Bool → ℕ → Act Unit
 jumpIf b disp = pick b (jump disp) (pure tt)

@@ -14,7 +14,8 @@ use Rattle.sheet.specs.declared.Prefixes.{Prefixes}
 use Rattle.sheet.specs.declared.Repeat.{Repeat}
 use Rattle.sheet.specs.declared.Repeat.the-variants.{Once, WhileZ, WhileNotZ, WhileCy, WhileNotCy}
 use Rattle.sheet.specs.declared.Instr.{Instr}
-use Rattle.sheet.specs.Width.{pick}
+use Rattle.sheet.specs.Width.{pick, odd}
+use Rattle.sheet.specs.Psw.{at}
 use Rattle.sheet.specs.Registers.{inDs1, inPs, inSs, inDs0}
 use Rattle.sheet.specs.Operand.{formAt}
 use Rattle.sheet.specs.Reading.{Reading, got, no, _>>=_, _>>_, word, signedByte, allow}
@@ -128,7 +129,7 @@ lookUp (r ∷ t) b =
 
 -- bit 0 of a code is W; bit 1 says that the register is the destination
 abbrev pub W : ℕ → Bool
-W n = eqb (n % 2) 1
+W n = odd n
 
 abbrev pub toRegister : ℕ → Bool
-toRegister n = eqb (n / 2 % 2) 1
+toRegister n = at n 2

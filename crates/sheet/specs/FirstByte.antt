@@ -57,7 +57,7 @@ withMemory p k = do
   a ← memory p m
   got (k (regField m) a)
 
--- the operations by the reg field of 80 to 83, and by bits 3 to 5 of the first bytes below 40
+-- the operations by the reg field of 80 to 83
 abbrev pub operations : List Operation
 operations = Add ∷ Or ∷ Addc ∷ Subc ∷ And ∷ Sub ∷ Xor ∷ Cmp ∷ []
 

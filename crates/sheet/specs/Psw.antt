@@ -40,7 +40,7 @@ pack g =
 
 -- the fixed bits are as they must be
 abbrev pub fixedOf : ℕ → Bool
-fixedOf x = eqb (x / 4096) 15 && (eqb (x / 2 % 2) 1 && (eqb (x / 8 % 2) 0 && eqb (x / 32 % 2) 0))
+fixedOf x = eqb (x / 4096) 15 && (at x 2 && (eqb (x / 8 % 2) 0 && eqb (x / 32 % 2) 0))
 
 -- what the sheet prints for one flag: nothing, U, or a value (0, 1, by the result, or R)
 pub data Effect : Type 0 where

@@ -1,7 +1,6 @@
 -- Shifts and rotates: one place, and any number of places.
 use mathlib.Core.Bool.{Bool, true, false, not, Bool·beq}
-use Prim.Native.Nat.{ℕ, zero, suc, _+_, _*_, _/_, _%_}
-use lib.Dec.{eqb}
+use Prim.Native.Nat.{ℕ, zero, suc, _+_, _*_, _/_}
 use Rattle.sheet.specs.declared.Shift.{Shift}
 use Rattle.sheet.specs.declared.Shift.the-variants.{Rol, Ror, Rolc, Rorc, Shl, Shr, Shra}
 use Rattle.sheet.specs.declared.Turn.{Turn}
@@ -9,7 +8,7 @@ use Rattle.sheet.specs.declared.Places.{Places}
 use Rattle.sheet.specs.declared.Places.the-variants.{One, Counted}
 use Rattle.sheet.specs.declared.Place.{Place}
 use Rattle.sheet.specs.declared.Spot.{Spot}
-use Rattle.sheet.specs.Width.{pick, halfOf, wrapOf, signOf}
+use Rattle.sheet.specs.Width.{pick, halfOf, wrapOf, signOf, odd}
 use Rattle.sheet.specs.Psw.{CY, bit, Effect, blank, unknown, becomes, columns}
 use Rattle.sheet.specs.Act.{Act, pure, _>>=_, _>>_, flag, affect}
 use Rattle.sheet.specs.Operand.{locate, fetch, deposit, amountOf}
@@ -31,7 +30,7 @@ leftward Shra = false
 -- the bit that comes in at the free end
 unfoldable pub comesIn : Shift → Bool → Turn → Bool
 comesIn Rol w t = signOf w (t .value)
-comesIn Ror w t = eqb (t .value % 2) 1
+comesIn Ror w t = odd (t .value)
 comesIn Rolc w t = t .cy
 comesIn Rorc w t = t .cy
 comesIn Shl w t = false
@@ -43,7 +42,7 @@ unfoldable pub toLeft : Bool → Bool → ℕ → Turn
 toLeft w b x = turn (wrapOf w (2 * x + bit b)) (signOf w x)
 
 unfoldable pub toRight : Bool → Bool → ℕ → Turn
-toRight w b x = turn (x / 2 + pick b (halfOf w) 0) (eqb (x % 2) 1)
+toRight w b x = turn (x / 2 + pick b (halfOf w) 0) (odd x)
 
 unfoldable pub onePlace : Shift → Bool → Turn → Turn
 onePlace k w t = pick (leftward k) (toLeft w (comesIn k w t) (t .value)) (toRight w (comesIn k w t) (t .value))

@@ -1,4 +1,4 @@
--- One step, an interrupt call, and reset; what each call reports.
+-- One step, an interrupt call, and reset; what a step and an interrupt report.
 use Prim.Native.Nat.{ℕ, _+_}
 use mathlib.Core.Bool.{Bool, true, false, not, _&&_}
 use mathlib.Core.List.{List, []}

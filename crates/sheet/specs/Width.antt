@@ -27,6 +27,10 @@ wrapOf w x = pick w (x % 65536) (x % 256)
 unfoldable pub signOf : Bool → ℕ → Bool
 signOf w x = leb (halfOf w) x
 
+-- bit 0
+abbrev pub odd : ℕ → Bool
+odd n = eqb (n % 2) 1
+
 -- the low byte has an even count of ones
 unfoldable pub evenOf : ℕ → Bool
 evenOf x = eqb (ones (x % 256) % 2) 0

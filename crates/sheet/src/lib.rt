@@ -374,7 +374,7 @@ pub struct Turn {
     pub cy: bool,
 }
 
-// A byte of two decimal digits with AC and CY.
+// A byte with AC and CY.
 pub struct Digits {
     pub value: u16,
     pub ac: bool,
