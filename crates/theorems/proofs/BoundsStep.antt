@@ -28,7 +28,8 @@ use Rattle.theorems.proofs.BoundsRules.{Within, within, short-of, Most,
 use Rattle.theorems.proofs.BoundsOperands.{of-trap}
 use Rattle.theorems.proofs.BoundsGroups.{of-transfer, of-calculate, of-untrapped, of-multiply, of-convert, of-shift, of-bits, of-decimal, of-field}
 use Rattle.theorems.proofs.BoundsFlow.{of-stack, of-branch, of-conditional, of-interrupts, of-block, of-ports, of-control}
-use Rattle.theorems.proofs.BoundsReading.{Fine, Scanned, read, unread, scanned, of-instruction}
+use Rattle.theorems.proofs.BoundsReading.{Fine, Scanned, read, unread, scanned}
+use Rattle.theorems.proofs.BoundsCodes.{of-instruction}
 
 -- ---- an instruction
 

@@ -18,6 +18,7 @@ pub mod BoundsOperands
 pub mod BoundsGroups
 pub mod BoundsFlow
 pub mod BoundsReading
+pub mod BoundsCodes
 pub mod BoundsStep
 pub mod BoundsPrepare
 pub mod Calls
