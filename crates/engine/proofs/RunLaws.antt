@@ -14,7 +14,7 @@ use Rattle.sheet.specs.Handler.{Event, Outcome, refused, done, kept, nothing, _
 use Rattle.sheet.specs.Contract.{stops, ends, seen}
 use Rattle.sheet.specs.Step.{fits, sound, awake, stepBy}
 use Rattle.sheet.specs.Run.{Ran, ran, more, onward, stepsBy, runsBy, runs, RunReport, runReport, ranReport}
-use Rattle.sheet.proofs.Lent.{Sound, Good}
+use Rattle.sheet.proofs.Lent.{Lent, Sound}
 use Rattle.sheet.proofs.StepLaws.{step-leaves}
 use Rattle.calls.specs.Calls.{checkNumber}
 use Rattle.engine.specs.Steps.{placesOf, Advances}
@@ -22,7 +22,7 @@ use Rattle.engine.specs.Runs.{Runs}
 use Rattle.engine.proofs.Laws.{passed}
 
 -- what two lists of events come to
-tally-both : (t u : List Event) → tally (t ++ u) ≡ tally t ⊕ tally u
+pub tally-both : (t u : List Event) → tally (t ++ u) ≡ tally t ⊕ tally u
 unfolding tally
 tally-both [] u = ap (λ (c : ℕ). record { cycles = c }) (omega arith)
 tally-both (e ∷ t) u = rw (tally-both t u) (ap (λ (c : ℕ). record { cycles = c }) (omega arith))
@@ -77,13 +77,14 @@ module _ (v : World) (f : fits v ≡ true) (g : sound v ≡ true) where
       go (refused j t) a q = let b : _≡_ {A = ℕ} j k = cc in record { trace = t; is = past-checks ∙ a ∙ rw b }
       go (done x u t) a q = absurd (let z : _≡_ {A = ℕ} 0 1 = cc in omega arith)
 
-sound-so : (w : World) → Sound w → sound w ≡ true
+-- an accepted call leaves a world that passes the checks again
+pub sound-so : (w : World) → Sound w → sound w ≡ true
 unfolding sound
 sound-so w s = rw (s .fixed, le-leb _ _ (s .tape-in), le-leb _ _ (s .log-in), le-leb _ _ (s .count-in))
 
-fits-so : (w v : World) → Good w v → fits w ≡ true → fits v ≡ true
+pub fits-so : (w v : World) → Lent w v → fits w ≡ true → fits v ≡ true
 unfolding fits
-fits-so w v g f = rw (g .lent .ram-long, g .lent .rom-same) f
+fits-so w v l f = rw (l .ram-long, l .rom-same) f
 
 -- ---- the loop
 
@@ -137,7 +138,7 @@ module _ {w : World} {s : State} {ram rom tape log : List ℕ} {k c : ℕ} (p : 
         accepted = p .accepted;
         most = (let x = p .most in let y = a .most in omega arith);
         whole = g .sound .whole;
-        fit = fits-so v v′ g (p .fit);
+        fit = fits-so v v′ (g .lent) (p .fit);
         good = sound-so v′ (g .sound);
         rest = λ j. rest-of d j;
       }

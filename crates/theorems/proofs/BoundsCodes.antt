@@ -15,8 +15,8 @@ use Rattle.sheet.specs.declared.Places.{Places}
 use Rattle.sheet.specs.declared.Prefixes.{Prefixes}
 use Rattle.sheet.specs.declared.Instr.{Instr}
 use Rattle.sheet.specs.Width.{pick}
-use Rattle.sheet.specs.Reading.{Reading, got, _>>=_, byte}
-use Rattle.sheet.specs.Encoding.{Prefix, unprefixed, withPrefix, regField, address, place, memory, Row, toRegister}
+use Rattle.sheet.specs.Reading.{Reading, got, _>>=_}
+use Rattle.sheet.specs.Encoding.{Prefix, unprefixed, withPrefix, regField, place, memory, Row, toRegister}
 use Rattle.sheet.specs.SecondByte.{bitInCl, bitGiven, fieldInRegister, fieldGiven, digit, secondBytes}
 use Rattle.sheet.specs.FirstByte.{sixCodes, smallImmediate, withImmediate, withShift, shiftGroup, groupF6, groupFE, groupFF, fromSegment, toSegment, afterTen, withCounted, bytes00, bytes40, bytes80, bytesC0, firstBytes, afterPrefix, prefixed, instruction}
 use Rattle.theorems.proofs.BoundsReading.{Leaf, bind, either, Any, some-leaf, unknown-code, of-byte, of-word, any-byte, of-immediate, of-signedByte, of-allow, of-place, of-memory, of-plainPlace, Fine, ok, of-withPlace, of-withMemory, of-withAcc, of-withByte, of-withWord, of-withShort, of-withFar, Rows, of-lookUp, both, leaf, stop, none-more, _also_}

@@ -2,7 +2,6 @@
 use Prim.Native.Nat.{ℕ, _+_, _-_, _≤_}
 use mathlib.Core.Bool.{Bool, true, false, _&&_}
 use mathlib.Core.List.{List, [], _∷_, _++_}
-use mathlib.Core.Option.{none}
 use lib.Dec.{eqb, lit≤}
 use Rattle.sheet.specs.declared.Address.{Address}
 use Rattle.sheet.specs.declared.Place.{Place}
@@ -15,7 +14,7 @@ use Rattle.sheet.specs.Width.{pick}
 use Rattle.sheet.specs.Reading.{Reading, got, need, no, _>>=_, Read, known, unknown, scan, byte, word, immediate, signedByte, allow}
 use Rattle.sheet.specs.Encoding.{modField, memField, displacement, withDisplacement, withOffset, address, inMemory, place, memory, Row, covers, lookUp}
 use Rattle.sheet.specs.SecondByte.{plainPlace}
-use Rattle.sheet.specs.FirstByte.{withPlace, withMemory, withAcc, withByte, withWord, withShort, withFar, instruction}
+use Rattle.sheet.specs.FirstByte.{withPlace, withMemory, withAcc, withByte, withWord, withShort, withFar}
 use Rattle.theorems.proofs.BoundsFlow.{levelOf}
 
 -- Q holds of all that a reading of bytes up to 255 comes to, and its refusals are 3 and 4

@@ -7,13 +7,11 @@ use native.Mathlib.Decide.{decLt}
 use native.Mathlib.Nat.{le-refl, not-suc-le-zero, sub-zero}
 use native.Mathlib.Omega.{arith}
 use lib.Dec.{eqb, eqb·suc-zero}
-use lib.ListN.{length, getD, set}
-use borrow.Author.Tests.{le-leb}
+use lib.ListN.{getD, set}
 use Rattle.sheet.specs.declared.Instr.the-variants.{Blocks}
 use Rattle.sheet.specs.Width.{pick, sub16}
 use Rattle.sheet.specs.Registers.{CW, IX, IY, DS1, PS, PC, fileOf, segment}
 use Rattle.sheet.specs.Memory.{byteAt}
-use Rattle.sheet.specs.Log.{rule}
 use Rattle.sheet.specs.World.{World, pswOf}
 use Rattle.sheet.specs.Handler.{Event, Outcome, refused, done, kept, run, happened}
 use Rattle.sheet.specs.Reading.{known, scan}
@@ -23,6 +21,7 @@ use Rattle.sheet.specs.Step.{fits, sound, refusal, codeAt, source, stepping, de
 use Rattle.sheet.proofs.ReadingLaws.{scan-rests}
 use Rattle.sheet.proofs.Lent.{Lent, Sound, Good}
 use Rattle.sheet.proofs.StepLaws.{sound-is, step-leaves, interrupt-leaves}
+use Rattle.engine.proofs.RunLaws.{sound-so, fits-so}
 use Rattle.theorems.specs.Repeat.{Block, ends, single, singles, elements, reg, Kept, own-byte, source-byte, target-byte, past, placed, Engine, Call, stepped, interrupted, Calls, no-call, and-then, Gap, quiet, service, Own, begun, next-own, Answered, shown, Taken, After, Claimed, Demand3}
 use Rattle.theorems.specs.RepeatEngines.{accesses, Tells, accepts, refuses, engine, definition}
 use Rattle.theorems.proofs.RepeatCount.{firstOr-le, firstOr-pos, firstOr-before, firstOr-end}
@@ -62,16 +61,6 @@ ready {w = w} h = go (fits w) (sound w) (w .state .halted) refl refl refl
     go true true true a b c = absurd (not-zero 7 h (rw (a, b, c)))
     go true false u a b c = absurd (not-zero 1 h (rw (a, b)))
     go false s u a b c = absurd (not-zero 0 h (rw a))
-
--- number 2 is not due of a sound state
-sound-back : (w : World) → Sound w → sound w ≡ true
-unfolding sound
-sound-back w s =
-    rw (s .fixed, le-leb (w .state .tape) (length (w .tape)) (s .tape-in), le-leb (w .state .log) (length (w .log)) (s .log-in), le-leb (w .state .count) (rule .ceiling) (s .count-in))
-
-fits-lent : {w v : World} → Lent w v → fits w ≡ true → fits v ≡ true
-unfolding fits
-fits-lent l e = rw (l .ram-long, l .rom-same) e
 
 -- what is read at PS:PC is what the step does
 turns : (w : World) (i : Block) → Ready w → scan instruction (source w) 0 ≡ known (Blocks (i .kind) (i .word) (i .seg) (i .repeat)) (i .size)
@@ -253,7 +242,7 @@ module _ (E : Engine) (F : Faithful E) (i : Block) (w : World) (t : Taken E i w)
       let f : List ℕ = singles i w j .state .file in
       let c : ℕ = reg w CW - j in
       let k = keep j in
-      let go : Ready v = record { fit = fits-lent (x .lent) (at-first .fit); good = sound-back v (x .sound); up = x .awake } in
+      let go : Ready v = record { fit = fits-so _ v (x .lent) (at-first .fit); good = sound-so v (x .sound); up = x .awake } in
       let covers : CoversDue K (i .kind) (i .word) (i .seg) f = (
         λ hs. covers-by (i .word) (fileOf f (segment (i .seg))) (getD f IX 0) (λ a q. inside a (source-byte j h hs (source-is i w (t .blocks) (t .whole) hs j a q))),
         λ ht. covers-by (i .word) (getD f DS1 0) (getD f IY 0) (λ a q. inside a (target-byte j h ht (target-is i w (t .blocks) (t .whole) ht j a q))),
@@ -325,7 +314,7 @@ module _ (E : Engine) (F : Faithful E) (i : Block) (w : World) (t : Taken E i w)
   unfolding sheet.counted singles
   at-zero z n v u o g s =
       let x = across inv-begun g in
-      let go : Ready v = record { fit = fits-lent (x .lent) (at-first .fit); good = sound-back v (x .sound); up = x .awake } in
+      let go : Ready v = record { fit = fits-so _ v (x .lent) (at-first .fit); good = sound-so v (x .sound); up = x .awake } in
       let here : v .state .file ≡ placed (reg w CW) (reg w PC) (w .state .file) = rw (sub-zero (reg w CW)) at (x .registers) in
       let made = empty-turn (i .kind) (i .word) (i .seg) (i .repeat) (i .size) (reg w CW) (reg w PC) (sheet.counted v) (w .state .file) (t .whole) here (t .untraced) (t .repeated) (rw z) in
       let is = turned v i go (still-read (omega arith) x) made in

@@ -18,7 +18,7 @@ use Rattle.theorems.specs.RepeatEngines.{accesses, Tells, accepts, refus
 use Rattle.theorems.specs.RepeatCode.{StepCall, step-call, InterruptCall, interrupt-call, code, total, eventsOf}
 use Rattle.theorems.proofs.Repeat.{Faithful, demand3}
 use Rattle.theorems.proofs.BoundsStep.{at-most-1028}
-use Rattle.theorems.proofs.Runs.{tally-both}
+use Rattle.engine.proofs.RunLaws.{tally-both}
 
 -- what a report tells
 abbrev Told : World → Outcome Unit → Report → Type 0

@@ -2,21 +2,18 @@
 use Prim.Native.Nat.{ℕ, zero, suc, _+_, _-_, _≤_, _<_}
 use mathlib.Core.Path.{_≡_, refl, ap, sym, _∙_}
 use mathlib.Core.Bool.{Bool, true, false}
-use mathlib.Core.List.{List, [], _∷_, _++_, append-assoc, append-nil}
+use mathlib.Core.List.{List, [], _++_, append-assoc, append-nil}
 use native.Mathlib.Nat.{zero-add, add-zero}
 use native.Mathlib.Omega.{arith}
 use lib.ListN.{length}
-use borrow.Author.Tests.{le-leb}
-use Rattle.sheet.specs.declared.Bus.{Bus}
 use Rattle.sheet.specs.Width.{pick}
 use Rattle.sheet.specs.World.{World}
-use Rattle.sheet.specs.Handler.{Event, Outcome, refused, done, kept, _⊕_, cost, tally}
+use Rattle.sheet.specs.Handler.{Event, Outcome, refused, done, kept, _⊕_, tally}
 use Rattle.sheet.specs.Step.{fits, sound, step}
 use Rattle.sheet.specs.Run.{Ran, ran, more, onward, stepsBy, runsBy, runs, runReport, ranReport}
 use Rattle.theorems.specs.Runs.{Walk, none, step-then, RunOf, unfit, unsound, spent, stopped, after}
-use Rattle.sheet.proofs.Rules.{no-first, ⊕-assoc}
+use Rattle.engine.proofs.RunLaws.{tally-both, sound-so, fits-so}
 use Rattle.sheet.proofs.StepLaws.{step-leaves}
-use Rattle.sheet.proofs.Lent.{Lent, Sound}
 
 -- ---- a run is its single steps
 
@@ -132,21 +129,13 @@ within-budget budget w n k v t e = go (ran n v k t) (rw e at (run-is budget w))
 
 -- ---- a run of a + b steps
 
-sound-again : (w : World) → Sound w → sound w ≡ true
-unfolding sound
-sound-again w s = rw (s .fixed, le-leb _ _ (s .tape-in), le-leb _ _ (s .log-in), le-leb _ _ (s .count-in))
-
-fits-again : (w v : World) → Lent w v → fits w ≡ true → fits v ≡ true
-unfolding fits
-fits-again w v l f = rw (l .ram-long, l .rom-same) f
-
 -- steps lead from a good world to a good one
 steps-leave : (k : ℕ) (w v : World) (t : List Event) → length (w .state .file) ≡ 14 → fits w ≡ true → sound w ≡ true → Walk w k v t → (fits v ≡ true) × (sound v ≡ true)
 unfolding step
 steps-leave zero w v t n f s none = (f, s)
 steps-leave (suc k) w v t n f s (step-then {u = u} {s = q} {t = r} e g) =
     let l = step-leaves kept w u q n e in
-    steps-leave k u v r (l .sound .whole) (fits-again w u (l .lent) f) (sound-again u (l .sound)) g
+    steps-leave k u v r (l .sound .whole) (fits-so w u (l .lent) f) (sound-so u (l .sound)) g
 
 -- where the first a steps are all done, b more from where they lead make up a run of a + b
 split-good : (a b : ℕ) (w v : World) (n : ℕ) (t : List Event) → length (w .state .file) ≡ 14 → fits w ≡ true → sound w ≡ true → runs a w ≡ ran n v a t
@@ -174,12 +163,6 @@ run-splits a b w v n t l e = go (fits w) (sound w) refl refl
     go false s f g = at-once 1 (λ c. run-only c w (ran 1 w 0 []) (unfit f))
 
 -- ---- cycles
-
--- what two lists of events come to together
-pub tally-both : (s t : List Event) → tally (s ++ t) ≡ tally s ⊕ tally t
-unfolding tally
-tally-both [] t = sym (no-first (tally t))
-tally-both (e ∷ s) t = ap (λ (x : Bus). cost e ⊕ x) (tally-both s t) ∙ sym (⊕-assoc (cost e) (tally s) (tally t))
 
 -- so in what is reported: the steps add up, and so do the cycles
 pub run-splits-report : (a b : ℕ) (w v x : World) (n m k : ℕ) (t s : List Event) → length (w .state .file) ≡ 14

@@ -19,7 +19,8 @@ use Rattle.theorems.specs.Bounds.{Bytes}
 use Rattle.theorems.specs.Runs.{Walk, none, step-then, spent, stopped}
 use Rattle.theorems.specs.RunsCode.{Called, no-call, call-then}
 use Rattle.theorems.proofs.Calls.{step-done}
-use Rattle.theorems.proofs.Runs.{run-only, tally-both, stopped-keeps, run-splits-report}
+use Rattle.theorems.proofs.Runs.{run-only, stopped-keeps, run-splits-report}
+use Rattle.engine.proofs.RunLaws.{tally-both}
 
 -- ---- calls of step are steps
 
