@@ -12,7 +12,7 @@ use Rattle.sheet.specs.declared.Source.{Source}
 use Rattle.sheet.specs.declared.Spot.{Spot}
 use Rattle.sheet.specs.declared.Transfer.{Transfer}
 use Rattle.sheet.specs.declared.Transfer.the-variants.{Mov, LoadAcc, StoreAcc, ToSegment, FromSegment, LoadPointer, AhFromPsw, PswFromAh, Ldea, Trans, Xch}
-use Rattle.sheet.specs.Width.{add16}
+use Rattle.sheet.specs.Width.{wrapOf, add16}
 use Rattle.sheet.specs.Psw.{keeps, column, settled}
 use Rattle.sheet.specs.Registers.{AW, BW, AH, PSW, fileOf, segment, readReg}
 use Rattle.sheet.specs.Act.{_≔_}
@@ -56,7 +56,7 @@ module _ (f g ram ram′ rom : List ℕ) where
   load-pointer-is seg reg from x y h n p q k = memory-last _ p (file-seq _ q k)
 
   pub ah-from-psw-is : OnFile Unit (setReg false AH (getD f PSW 0 % 256)) f tt g → OnMemory Unit ahFromPsw f ram rom tt g ram nothing 4
-  unfolding ahFromPsw
+  unfolding ahFromPsw wrapOf
   ah-from-psw-is h = on-memory ram rom 4 (file-seq _ (file-psw false) h)
 
   pub psw-from-ah-is : (x y : ℕ) → x ≡ readReg false (fileOf f) AH → y ≡ settled keeps (column (flagsOfByte x)) (getD f PSW 0) → OnMemory Unit pswFromAh f ram rom tt (set f PSW y) ram nothing 4

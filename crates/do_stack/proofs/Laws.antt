@@ -1,5 +1,5 @@
 -- What each instruction comes to, from what its parts come to.
-use Prim.Native.Nat.{ℕ}
+use Prim.Native.Nat.{ℕ, _<_}
 use mathlib.Core.Path.{_≡_}
 use mathlib.Core.Bool.{true}
 use mathlib.Core.List.{List}
@@ -22,6 +22,7 @@ use Rattle.sheet.specs.Traps.{push, pop}
 use Rattle.sheet.specs.Stack.{pushRegister, pushPlace, pushSegment, pushPsw, pushR, popPlace, popSegment, popPsw, popR, prepare, dispose, stack}
 use Rattle.sheet.specs.Contract.{OnFile, OnMemory}
 use Rattle.sheet.proofs.Lifted.{file-registers, file-set, file-flags, file-psw, memory-seq, memory-free, memory-last, memory-at-most}
+use Rattle.word.proofs.WidthLaws.{wrap-id}
 use Rattle.memory.specs.Accesses.{Stores}
 use Rattle.do_stack.specs.Held.{pushHeld}
 
@@ -49,9 +50,9 @@ module _ (f g ram ram′ rom : List ℕ) where
   unfolding pushSegment
   push-segment-is seg v n e h = memory-free _ file-registers (rw (← e) h)
 
-  pub push-psw-is : (x : ℕ) (n : Bus) → x ≡ getD f PSW 0 → OnMemory Unit (push x) f ram rom tt g ram′ n 2 → OnMemory Unit pushPsw f ram rom tt g ram′ n 2
+  pub push-psw-is : (x : ℕ) (n : Bus) → x ≡ getD f PSW 0 → x < 65536 → OnMemory Unit (push x) f ram rom tt g ram′ n 2 → OnMemory Unit pushPsw f ram rom tt g ram′ n 2
   unfolding pushPsw
-  push-psw-is x n e h = memory-free _ (file-psw true) (rw (← e) h)
+  push-psw-is x n e l h = memory-free _ (file-psw true) (rw (← e, wrap-id true x l) h)
 
   pub pop-place-is : (to : Place) (v : ℕ) (s : Spot) (h : List ℕ) (n m : Bus) → OnMemory ℕ pop f ram rom v h ram n 2 → OnFile Spot (locate to) h s h
       → OnMemory Unit (deposit true s v) h ram rom tt g ram′ m 2 → OnMemory Unit (popPlace to) f ram rom tt g ram′ (n ⊕ m) 4

@@ -49,7 +49,7 @@ fn push_segment(file: &mut [u16; 14], ram: &mut [u8], rom: &[u8], seg: u8) -> Bu
 fn push_psw(file: &mut [u16; 14], ram: &mut [u8], rom: &[u8]) -> Bus
     ensures { λ r. ⌜ OnMemory Unit tree.pushPsw (now (file .entry)) (now (ram .entry)) (now (rom .entry)) tt (now (file .exit)) (now (ram .exit)) r 2 ⌝ }
 {
-    let x = file[PSW];
+    let x = word::word(file[PSW]);
     traps::push(file, ram, rom, x)
 }
 

@@ -13,7 +13,7 @@ use Rattle.sheet.specs.World.{World, world, stateOf}
 use Rattle.sheet.specs.Handler.{Event, Outcome, refused, done, kept, nothing, _⊕_, tally}
 use Rattle.sheet.specs.Contract.{stops, ends, seen}
 use Rattle.sheet.specs.Step.{fits, sound, awake, stepBy}
-use Rattle.sheet.specs.Run.{Ran, ran, more, onward, stepsBy, runsBy, runs, RunReport, runReport, ranReport}
+use Rattle.sheet.specs.Run.{Ran, ran, more, onward, stepsBy, runsBy, runs, RunReport, runReported, ranReport}
 use Rattle.sheet.proofs.Lent.{Lent, Sound}
 use Rattle.sheet.proofs.StepLaws.{step-leaves}
 use Rattle.calls.specs.Calls.{checkNumber}
@@ -29,7 +29,7 @@ tally-both (e ∷ t) u = rw (tally-both t u) (ap (λ (c : ℕ). record { cycles 
 
 -- k steps in c bus cycles, in front of what a run reports
 abbrev before : ℕ → ℕ → RunReport → RunReport
-before k c (runReport r w m b) = runReport r w (k + m) (record { cycles = c + b .cycles })
+before k c (runReported r w m b) = runReported r w (k + m) (record { cycles = c + b .cycles })
 
 -- a budget that is not spent
 one-step : (j : ℕ) (w : World) → stepsBy (λ i. kept) (suc j) w ≡ onward w (stepBy kept w) (stepsBy (λ i. kept) j)
@@ -98,7 +98,7 @@ pub record Continues (w v : World) (k c : ℕ) : Type 0 where
   pub rest : (j : ℕ) → ranReport (stepsBy (λ i. kept) (k + j) w) ≡ before k c (ranReport (stepsBy (λ i. kept) j v))
 
 before-none : (r : RunReport) → r ≡ before 0 0 r
-before-none (runReport n w m b) =
+before-none (runReported n w m b) =
     let a : m ≡ 0 + m = omega arith in
     let c : b .cycles ≡ 0 + b .cycles = omega arith in
     rw (← a, ← c)
@@ -153,7 +153,7 @@ module _ {w : World} {s : State} {ram rom tape log : List ℕ} {k c : ℕ} (p : 
       rest-of d j = let z : k + 1 + j ≡ k + suc j = omega arith in rw z (p .rest (suc j) ∙ one-more d j)
 
   continues-stop : (budget number : ℕ) → k < budget → seen (awake kept v) ≡ stops number
-      → ranReport (stepsBy (λ i. kept) budget w) ≡ runReport number v k (record { cycles = c })
+      → ranReport (stepsBy (λ i. kept) budget w) ≡ runReported number v k (record { cycles = c })
   unfolding v tally
   continues-stop budget number h a =
       let d = step-refused v (p .fit) (p .good) number a in
@@ -162,7 +162,7 @@ module _ {w : World} {s : State} {ram rom tape log : List ℕ} {k c : ℕ} (p : 
       let y : c + 0 ≡ c = omega arith in
       rw z (p .rest (suc (budget - k - 1)) ∙ rw (one-step (budget - k - 1) v, d .is, x, y))
 
-  continues-end : (budget : ℕ) → k ≡ budget → ranReport (stepsBy (λ i. kept) budget w) ≡ runReport 0 v k (record { cycles = c })
+  continues-end : (budget : ℕ) → k ≡ budget → ranReport (stepsBy (λ i. kept) budget w) ≡ runReported 0 v k (record { cycles = c })
   unfolding v tally
   continues-end budget h =
       let z : budget ≡ k + 0 = omega arith in
@@ -205,11 +205,11 @@ module _ {budget : ℕ} {s : State} {ram rom tape log f ram₁ log₁ : List ℕ
   unfolding v
   runs-end h l u = record { within = h; most = p .most; is = rw u (ap ranReport (runs-on budget _ (p .accepted)) ∙ continues-end p budget (omega arith)) }
 
-refused-at-once : (budget : ℕ) (w : World) (number : ℕ) → number ≡ checkNumber w → (number ≡ 0 → ⊥) → ranReport (runs budget w) ≡ runReport number w 0 nothing
+refused-at-once : (budget : ℕ) (w : World) (number : ℕ) → number ≡ checkNumber w → (number ≡ 0 → ⊥) → ranReport (runs budget w) ≡ runReported number w 0 nothing
 unfolding runs runsBy tally
 refused-at-once budget w number e z = go (fits w) (sound w) refl refl
   where
-    go : (f g : Bool) → fits w ≡ f → sound w ≡ g → ranReport (runs budget w) ≡ runReport number w 0 nothing
+    go : (f g : Bool) → fits w ≡ f → sound w ≡ g → ranReport (runs budget w) ≡ runReported number w 0 nothing
     go true true a b = absurd (z (e ∙ rw (a, b)))
     go true false a b = rw (e, a, b)
     go false g a b = rw (e, a)

@@ -30,9 +30,9 @@ module _ (w : Bool) (f : List ℕ) (n x : ℕ) where
   unfolding readReg
   read-word p q = rw (p, file-word f (n % 8) (eighth n)) q
 
-  pub read-low : w ≡ false → n % 8 < 4 → x ≡ getD f (n % 8) 0 → x % 256 ≡ readReg w (fileOf f) n
+  pub read-low : w ≡ false → n % 8 < 4 → x ≡ getD f (n % 4) 0 → x % 256 ≡ readReg w (fileOf f) n
   unfolding readReg
-  read-low p h q = rw (p, lt-ltb (n % 8) 4 h, file-word f (n % 8) (eighth n), q)
+  read-low p h q = rw (p, lt-ltb (n % 8) 4 h, file-word f (n % 4) (fourth n), q)
 
   pub read-high : w ≡ false → 4 ≤ n % 8 → x ≡ getD f (n % 4) 0 → x / 256 ≡ readReg w (fileOf f) n
   unfolding readReg
@@ -45,18 +45,18 @@ set-is w f g n v i x h e q z = file-seq _ file-registers (rw (e, q, z, ← file-
 
 module _ (w : Bool) (f g : List ℕ) (n v x : ℕ) where
   pub set-word : w ≡ true → g ≡ set f (n % 8) v → OnFile Unit (setReg w n v) f tt g
-  unfolding regIndex regWord
+  unfolding regWord
   set-word p z = set-is w f g n v (n % 8) v (eighth n) (rw p) (rw p) z
 
-  pub set-low : w ≡ false → n % 8 < 4 → x ≡ getD f (n % 8) 0 → g ≡ set f (n % 8) (x / 256 * 256 + v % 256) → OnFile Unit (setReg w n v) f tt g
-  unfolding regIndex regWord
+  pub set-low : w ≡ false → n % 8 < 4 → x ≡ getD f (n % 4) 0 → g ≡ set f (n % 4) (x / 256 * 256 + v % 256) → OnFile Unit (setReg w n v) f tt g
+  unfolding regWord
   set-low p h q z =
-      set-is w f g n v (n % 8) (x / 256 * 256 + v % 256) (eighth n) (rw (p, lt-ltb (n % 8) 4 h)) (rw (p, lt-ltb (n % 8) 4 h, file-word f (n % 8) (eighth n), q)) z
+      set-is w f g n v (n % 4) (x / 256 * 256 + v % 256) (fourth n) (rw p) (rw (p, lt-ltb (n % 8) 4 h, file-word f (n % 4) (fourth n), q)) z
 
   pub set-high : w ≡ false → 4 ≤ n % 8 → x ≡ getD f (n % 4) 0 → g ≡ set f (n % 4) (v % 256 * 256 + x % 256) → OnFile Unit (setReg w n v) f tt g
-  unfolding regIndex regWord
+  unfolding regWord
   set-high p h q z =
-      set-is w f g n v (n % 4) (v % 256 * 256 + x % 256) (fourth n) (rw (p, le-ltb (n % 8) 4 h)) (rw (p, le-ltb (n % 8) 4 h, file-word f (n % 4) (fourth n), q)) z
+      set-is w f g n v (n % 4) (v % 256 * 256 + x % 256) (fourth n) (rw p) (rw (p, le-ltb (n % 8) 4 h, file-word f (n % 4) (fourth n), q)) z
 
 pub base-is : (f : List ℕ) (seg x : ℕ) → x ≡ getD f (8 + seg % 4) 0 → x ≡ fileOf f (segment seg)
 base-is f seg x q = rw (file-word f (8 + seg % 4) (omega arith)) q

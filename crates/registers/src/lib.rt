@@ -38,33 +38,33 @@ pub const PSW: usize = 13;
 pub fn reg(word: bool, file: &[u16; 14], n: u8) -> u16
     ensures { λ r. ⌜ r ≡ readReg word (fileOf (now (file .entry))) n ⌝ }
 {
-    let i = (n % 8) as usize;
     if word {
+        let i = (n % 8) as usize;
         return file[i];
     }
+    let i = (n % 4) as usize;
+    let held = word::word(file[i]);
     if n % 8 < 4 {
-        return file[i] % 256;
+        return held % 256;
     }
-    let j = (n % 4) as usize;
-    word::word(file[j]) / 256
+    held / 256
 }
 
 pub fn set_reg(word: bool, file: &mut [u16; 14], n: u8, v: u16)
     ensures { λ _. ⌜ OnFile Unit (setReg word n v) (now (file .entry)) tt (now (file .exit)) ⌝ }
 {
-    let i = (n % 8) as usize;
     if word {
+        let i = (n % 8) as usize;
         file[i] = v;
         return;
     }
+    let i = (n % 4) as usize;
+    let old = word::word(file[i]);
     if n % 8 < 4 {
-        let old = word::word(file[i]);
         file[i] = old / 256 * 256 + v % 256;
         return;
     }
-    let j = (n % 4) as usize;
-    let old = word::word(file[j]);
-    file[j] = v % 256 * 256 + old % 256;
+    file[i] = v % 256 * 256 + old % 256;
 }
 
 // The word of the segment register that a two-bit number names.

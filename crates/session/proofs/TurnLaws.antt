@@ -8,7 +8,7 @@ use native.Mathlib.Omega.{arith}
 use Rattle.sheet.specs.declared.Bus.{Bus}
 use Rattle.sheet.specs.declared.State.{State}
 use Rattle.sheet.specs.World.{world}
-use Rattle.sheet.specs.Run.{runs, runReport, ranReport}
+use Rattle.sheet.specs.Run.{runs, runReported, ranReport}
 use Rattle.calls.specs.Calls.{Interrupts}
 use Rattle.engine.specs.Runs.{Runs}
 use Rattle.session.specs.declared.Session.{Session}
@@ -32,7 +32,7 @@ continued-is {budget} {number} {limit} {k} {next} {s} {r} {ram} {rom} {tape} {lo
     (λ (x : Session). Continued next limit s ram rom tape log x ram′ log′)
     (sym e)
     (continued
-    (subst (λ (x : ℕ). ranReport (runs x (world (s .state) ram rom tape log)) ≡ runReport number (world t ram′ rom tape log′) k n) b (h .is)))
+    (subst (λ (x : ℕ). ranReport (runs x (world (s .state) ram rom tape log)) ≡ runReported number (world t ram′ rom tape log′) k n) b (h .is)))
 
 pub turn-by-call : {limit : ℕ} {next : Next} {due : Bool} {calls : List ℕ} {s r : Session} {ram rom tape log ram′ : List ℕ} → next ≡ nextOf calls (s .made) → due ≡ isCalled s next limit → due ≡ true → Called (next .call) s ram rom tape log r ram′ → Turn calls limit s ram rom tape log r ram′ log
 turn-by-call {limit} {next} {due} {calls} {s} {r} {ram} {rom} {tape} {log} {ram′} e f y h =

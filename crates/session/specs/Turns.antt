@@ -12,7 +12,7 @@ use Rattle.sheet.specs.Width.{pick}
 use Rattle.sheet.specs.World.{world}
 use Rattle.sheet.specs.Contract.{report}
 use Rattle.sheet.specs.Step.{interruptReport}
-use Rattle.sheet.specs.Run.{runs, runReport, ranReport}
+use Rattle.sheet.specs.Run.{runs, runReported, ranReport}
 use Rattle.session.specs.declared.Session.{Session}
 use Rattle.session.specs.declared.Next.{Next}
 
@@ -88,7 +88,7 @@ pub data Called (call : ℕ) (s : Session) (ram rom tape log : List ℕ) : Sessi
 -- a run
 pub data Continued (next : Next) (limit : ℕ) (s : Session) (ram rom tape log : List ℕ) : Session → List ℕ → List ℕ → Type 0 where
   continued : {number : ℕ} {t : State} {ram′ log′ : List ℕ} {k : ℕ} {n : Bus}
-      → ranReport (runs (budgetOf (s .steps) limit (next .due)) (world (s .state) ram rom tape log)) ≡ runReport number (world t ram′ rom tape log′) k n
+      → ranReport (runs (budgetOf (s .steps) limit (next .due)) (world (s .state) ram rom tape log)) ≡ runReported number (world t ram′ rom tape log′) k n
       → Continued next limit s ram rom tape log (ranBy s number t k n limit (next .waits)) ram′ log′
 
 pub data Turn (calls : List ℕ) (limit : ℕ) (s : Session) (ram rom tape log : List ℕ) : Session → List ℕ → List ℕ → Type 0 where

@@ -10,14 +10,14 @@ use lib.Seq.{getD-set-same, getD-set-other, length-take-le}
 use lib.Dec.{leb, ltb, lit≤, lit<}
 use borrow.Author.Tests.{leb-true, ltb-true}
 use Rattle.sheet.specs.declared.State.{State}
-use Rattle.sheet.specs.Width.{pick, bytesOf}
+use Rattle.sheet.specs.Width.{pick, bytesOf, wrapOf}
 use Rattle.sheet.specs.Psw.{Flag, Effect, Choice, fixedOf, flagOf, settled}
 use Rattle.sheet.specs.Registers.{PSW, fileOf, written}
 use Rattle.sheet.specs.Memory.{physical, next, readMem, writeMem}
 use Rattle.sheet.specs.Log.{rule, keyOf, recordBytes, writeLog}
 use Rattle.sheet.specs.World.{World, world, withState, withRam, pswOf, withFile, withPsw, withHalted, recorded}
 use Rattle.sheet.specs.Act.{Act, pure, refuse, get, put, ask, copy, flags, load, store, input, output, halt}
-use Rattle.sheet.specs.Handler.{Access, short, through, recording, taped, inputs, outputs, Event, reads, writes, takes, gives, asks, copies, changes, Outcome, refused, done, then, ported, copied, runBy}
+use Rattle.sheet.specs.Handler.{Access, short, through, recording, taped, inputs, outputs, Event, reads, writes, takes, gives, asks, copies, changes, Outcome, refused, done, then, ported, runBy}
 use Rattle.sheet.proofs.PswLaws.{fixed-settled}
 
 -- of the world that an outcome leaves
@@ -127,7 +127,7 @@ module _ (Q : World → Type 0) (k : Kept Q) where
   keeps-all (get c) u w q = keeps-all (c (fileOf (w .state .file))) u w q
   keeps-all (put n v p) u w q = keeps-all p u (withState w (withFile (w .state) (written (w .state .file) n v))) (k .at-register w n v q)
   keeps-all (ask f c) u w q = leaves-then (asks f) (keeps-all (c (flagOf (pswOf (w .state)) f)) u w q)
-  keeps-all (copy b c) u w q = leaves-then (copies b) (keeps-all (c (copied b (pswOf (w .state)))) u w q)
+  keeps-all (copy b c) u w q = leaves-then (copies b) (keeps-all (c (wrapOf b (pswOf (w .state)))) u w q)
   keeps-all (flags c p) u w q =
       leaves-then (changes c)
       (keeps-all p (λ i. u (suc i)) (withState w (withPsw (w .state) (settled (u 0) c (pswOf (w .state))))) (k .at-psw w (u 0) c q))

@@ -8,12 +8,12 @@ use native.Mathlib.Omega.{arith}
 use lib.Dec.{lit≤}
 use lib.ListN.{set}
 use Rattle.sheet.specs.declared.Bus.{Bus}
-use Rattle.sheet.specs.Width.{pick}
+use Rattle.sheet.specs.Width.{pick, wrapOf}
 use Rattle.sheet.specs.Psw.{Flag, Effect, keeps, flagOf, settled}
 use Rattle.sheet.specs.Registers.{PSW, File, fileOf, written}
 use Rattle.sheet.specs.Memory.{readMem, writeMem, busCycles}
 use Rattle.sheet.specs.Act.{Act, pure, flags, _>>=_, registers, _≔_, flag, psw, peek, poke}
-use Rattle.sheet.specs.Handler.{nothing, _⊕_, busOf, copied}
+use Rattle.sheet.specs.Handler.{nothing, _⊕_, busOf}
 use Rattle.sheet.specs.Contract.{OnFile, OnMemory}
 use lib.ListN.{getD}
 use Rattle.sheet.proofs.Rules.{seq, seq-free, seq-last, ends-pure, ends-registers, ends-set, ends-flag, ends-psw, ends-flags, ends-peek, ends-poke}
@@ -32,7 +32,7 @@ file-set n v = record { at = λ s ram rom tape log. ends-set n v }
 pub file-flag : (q : Flag) {f : List ℕ} → OnFile Bool (flag q) f (flagOf (getD f PSW 0) q) f
 file-flag q = record { at = λ s ram rom tape log. ends-flag q }
 
-pub file-psw : (b : Bool) {f : List ℕ} → OnFile ℕ (psw b) f (copied b (getD f PSW 0)) f
+pub file-psw : (b : Bool) {f : List ℕ} → OnFile ℕ (psw b) f (wrapOf b (getD f PSW 0)) f
 file-psw b = record { at = λ s ram rom tape log. ends-psw b }
 
 pub file-flags : (c : Flag → Effect) {f : List ℕ} {x : ℕ} → x ≡ settled keeps c (getD f PSW 0) → OnFile Unit (flags c (pure tt)) f tt (set f PSW x)

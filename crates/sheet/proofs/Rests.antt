@@ -10,14 +10,14 @@ use lib.Seq.{getD-set-same, getD-set-other, getD-append-add, getD-take, length-t
 use lib.Dec.{ltb, leb}
 use borrow.Author.Tests.{ltb-true, ltb-false, leb-true}
 use Rattle.sheet.specs.declared.State.{State}
-use Rattle.sheet.specs.Width.{pick, bytesOf}
+use Rattle.sheet.specs.Width.{pick, bytesOf, wrapOf}
 use Rattle.sheet.specs.Psw.{Choice, flagOf, settled}
 use Rattle.sheet.specs.Registers.{fileOf, written}
 use Rattle.sheet.specs.Memory.{physical, next, byteAt, readMem, writeMem}
 use Rattle.sheet.specs.Log.{rule, keyOf, recordBytes, writeLog}
 use Rattle.sheet.specs.World.{World, world, withState, withRam, pswOf, withFile, withPsw, withHalted, recorded}
 use Rattle.sheet.specs.Act.{Act, pure, refuse, get, put, ask, copy, flags, load, store, input, output, halt}
-use Rattle.sheet.specs.Handler.{Access, short, through, recording, taped, inputs, outputs, Event, reads, writes, takes, gives, asks, copies, changes, Outcome, refused, done, then, ported, copied, runBy, happened}
+use Rattle.sheet.specs.Handler.{Access, short, through, recording, taped, inputs, outputs, Event, reads, writes, takes, gives, asks, copies, changes, Outcome, refused, done, then, ported, runBy, happened}
 use Rattle.sheet.specs.Reach.{Covers, Sees, Within, Misses, Spares}
 use Rattle.sheet.proofs.Lent.{Leaves, none-left, leaves, LeavesAccess, none-port, leaves-port, leaves-then, writeMem-length, writeLog-length}
 
@@ -181,7 +181,7 @@ module _ (P : ℕ → Type 0) (start : ℕ) (tape : List ℕ) where
       let h = within-then (asks f) (runBy u (k b) (from s tape m)) r in
       same-then (asks f) (rests (k b) u s m m′ (h .1) l)
   rests (copy b k) u s m m′ r l =
-      let x : ℕ = copied b (pswOf s) in
+      let x : ℕ = wrapOf b (pswOf s) in
       let h = within-then (copies b) (runBy u (k x) (from s tape m)) r in
       same-then (copies b) (rests (k x) u s m m′ (h .1) l)
   rests (flags c p) u s m m′ r l =
@@ -259,7 +259,7 @@ module _ (a x : ℕ) where
       let b : Bool = flagOf (pswOf (w .state)) f in
       leaves-then (asks f) (spared (k b) u w (spares-then (asks f) (runBy u (k b) w) s .1) h)
   spared (copy b k) u w s h =
-      let y : ℕ = copied b (pswOf (w .state)) in
+      let y : ℕ = wrapOf b (pswOf (w .state)) in
       leaves-then (copies b) (spared (k y) u w (spares-then (copies b) (runBy u (k y) w) s .1) h)
   spared (flags c p) u w s h =
       let v : World = withState w (withPsw (w .state) (settled (u 0) c (pswOf (w .state)))) in

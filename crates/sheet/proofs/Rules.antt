@@ -5,13 +5,13 @@ use mathlib.Core.Path.{_≡_, refl, ap, sym, _∙_}
 use mathlib.Core.Bool.{Bool, true, false}
 use mathlib.Core.List.{List}
 use Rattle.sheet.specs.declared.Bus.{Bus}
-use Rattle.sheet.specs.Width.{pick}
+use Rattle.sheet.specs.Width.{pick, wrapOf}
 use Rattle.sheet.specs.Psw.{Flag, Effect, keeps, flagOf, settled}
 use Rattle.sheet.specs.Registers.{File, fileOf, written}
 use Rattle.sheet.specs.Memory.{readMem, writeMem}
 use Rattle.sheet.specs.World.{World, withState, withRam, pswOf, withFile, withPsw, withHalted}
 use Rattle.sheet.specs.Act.{Act, pure, refuse, get, put, ask, copy, flags, load, store, input, output, halt, _>>=_, registers, _≔_, flag, psw, peek, poke, inp, out, halted}
-use Rattle.sheet.specs.Handler.{Access, short, through, inputs, outputs, Event, reads, writes, takes, gives, asks, copies, changes, Outcome, refused, done, then, ported, copied, runBy, run, nothing, _⊕_, busOf, cost, tally}
+use Rattle.sheet.specs.Handler.{Access, short, through, inputs, outputs, Event, reads, writes, takes, gives, asks, copies, changes, Outcome, refused, done, then, ported, runBy, run, nothing, _⊕_, busOf, cost, tally}
 use Rattle.sheet.specs.Contract.{Seen, stops, ends, seen, exec, Ends, Stops}
 
 -- n more on the bus
@@ -72,7 +72,7 @@ exec-bind (ask q k) f w =
     let b : Bool = flagOf (pswOf (w .state)) q in
     event-bind (asks q) (run (k b) w) (run (k b >>= f) w) (λ a v. exec (f a) v) (exec-bind (k b) f w)
 exec-bind (copy b k) f w =
-    let x : ℕ = copied b (pswOf (w .state)) in
+    let x : ℕ = wrapOf b (pswOf (w .state)) in
     event-bind (copies b) (run (k x) w) (run (k x >>= f) w) (λ a v. exec (f a) v) (exec-bind (k x) f w)
 exec-bind (flags c p) f w =
     let u : World = withState w (withPsw (w .state) (settled keeps c (pswOf (w .state)))) in
@@ -159,7 +159,7 @@ module _ {w : World} where
   unfolding exec run runBy tally
   ends-flag f = record { is = refl }
 
-  pub ends-psw : (b : Bool) → Ends ℕ (psw b) w (copied b (pswOf (w .state))) w nothing
+  pub ends-psw : (b : Bool) → Ends ℕ (psw b) w (wrapOf b (pswOf (w .state))) w nothing
   unfolding exec run runBy tally
   ends-psw b = record { is = refl }
 
@@ -205,9 +205,6 @@ module _ {B : Type 0} {w u : World} {b : B} {n : Bus} where
 
   pub seq-flag : (q : Flag) (f : Bool → Act B) → Ends B (f (flagOf (pswOf (w .state)) q)) w b u n → Ends B (flag q >>= f) w b u n
   seq-flag q f h = seq-free f (ends-flag q) h
-
-  pub seq-psw : (c : Bool) (f : ℕ → Act B) → Ends B (f (copied c (pswOf (w .state)))) w b u n → Ends B (psw c >>= f) w b u n
-  seq-psw c f h = seq-free f (ends-psw c) h
 
   pub seq-flags : (c : Flag → Effect) (f : Unit {0} → Act B) {x : ℕ} → x ≡ settled keeps c (pswOf (w .state)) → Ends B (f tt) (withState w (withPsw (w .state) x)) b u n → Ends B (flags c (pure tt) >>= f) w b u n
   seq-flags c f e h = seq-free f (ends-flags c e) h

@@ -7,7 +7,7 @@ use lib.ListN.{replicate}
 use lib.Count.{ones}
 use Rattle.sheet.specs.Width.{wrapOf, signOf, evenOf, extend, signedOf, bits32}
 use Rattle.sheet.specs.Psw.{settled}
-use Rattle.sheet.specs.Registers.{readReg, regIndex, regWord}
+use Rattle.sheet.specs.Registers.{readReg, regWord}
 use Rattle.sheet.specs.Memory.{physical, byteAt, readMem, writeMem, busCycles}
 use Rattle.sheet.specs.Log.{groupsOf}
 use Rattle.sheet.specs.Act as act
@@ -95,7 +95,7 @@ pub record SmallTable : Type 0 where
   pub number : groupsOf 3 300 ≡ 0xac ∷ 0x02 ∷ []
 
 pub small-table : SmallTable
-unfolding ones wrapOf signOf evenOf extend signedOf bits32 settled readReg regIndex regWord byteAt readMem writeMem busCycles groupsOf act._>>=_ loop runBy tally formAt regValue setReg locate fetch deposit valueAt sourceValue amountOf push save trap resulting sum operate conclude two stands bitsOf quoted signedQuotient dividend setQuotient divided div comesIn toLeft onePlace manyPlaces shifted turned shiftMany carryIn finish shiftBy shift adjusted plain digits packedResult adj4 link string replaced lengthOf advance insertInto Rattle.sheet.specs.Fields.ins pushRegister pushPlace stack calculate untrapped multiply convert decimal field operation execute reading._>>=_ scan word immediate allow prefixOf formed address inMemory place lookUp fieldGiven withAcc withPlace withShift shiftGroup groupF6 afterPrefix prefixed instruction fits sound singleStep stepping counted decoded awake stepBy step stepReport
+unfolding ones wrapOf signOf evenOf extend signedOf bits32 settled readReg regWord byteAt readMem writeMem busCycles groupsOf act._>>=_ loop runBy tally formAt regValue setReg locate fetch deposit valueAt sourceValue amountOf push save trap resulting sum operate conclude two stands bitsOf quoted signedQuotient dividend setQuotient divided div comesIn toLeft onePlace manyPlaces shifted turned shiftMany carryIn finish shiftBy shift adjusted plain digits packedResult adj4 link string replaced lengthOf advance insertInto Rattle.sheet.specs.Fields.ins pushRegister pushPlace stack calculate untrapped multiply convert decimal field operation execute reading._>>=_ scan word immediate allow prefixOf formed address inMemory place lookUp fieldGiven withAcc withPlace withShift shiftGroup groupF6 afterPrefix prefixed instruction fits sound singleStep stepping counted decoded awake stepBy step stepReport
 small-table = record {
   adj4a = refl;
   sub4s = refl;

@@ -1,11 +1,11 @@
 -- The one handler of acts: what they do to a world, what happened on the way, and what is counted over that.
-use Prim.Native.Nat.{ℕ, zero, suc, _+_, _*_, _%_}
+use Prim.Native.Nat.{ℕ, zero, suc, _+_, _*_}
 use mathlib.Core.Bool.{Bool, true, false}
 use mathlib.Core.List.{List, [], _∷_}
 use lib.ListN.{length, getD}
 use lib.Dec.{leb}
 use Rattle.sheet.specs.declared.Bus.{Bus}
-use Rattle.sheet.specs.Width.{pick, bytesOf}
+use Rattle.sheet.specs.Width.{pick, bytesOf, wrapOf}
 use Rattle.sheet.specs.Psw.{Flag, Effect, Choice, keeps, flagOf, settled}
 use Rattle.sheet.specs.Registers.{fileOf, written}
 use Rattle.sheet.specs.Memory.{readMem, writeMem, busCycles}
@@ -65,10 +65,6 @@ abbrev pub ported : {A : Type 0} → Access → (ℕ → World → Outcome A) �
 ported (short n) f = refused n []
 ported (through v w) f = f v w
 
--- PSW, or its low byte
-abbrev pub copied : Bool → ℕ → ℕ
-copied w x = pick w x (x % 256)
-
 -- under choices for the unknown flags, one for each node that changes flags
 unfoldable pub runBy : {A : Type 0} → (ℕ → Choice) → Act A → World → Outcome A
 runBy u (pure a) w = done a w []
@@ -76,7 +72,7 @@ runBy u (refuse n) w = refused n []
 runBy u (get k) w = runBy u (k (fileOf (w .state .file))) w
 runBy u (put n v p) w = runBy u p (withState w (withFile (w .state) (written (w .state .file) n v)))
 runBy u (ask f k) w = then (asks f) (runBy u (k (flagOf (pswOf (w .state)) f)) w)
-runBy u (copy b k) w = then (copies b) (runBy u (k (copied b (pswOf (w .state)))) w)
+runBy u (copy b k) w = then (copies b) (runBy u (k (wrapOf b (pswOf (w .state)))) w)
 runBy u (flags c p) w =
     then (changes c) (runBy (λ i. u (suc i)) p (withState w (withPsw (w .state) (settled (u zero) c (pswOf (w .state))))))
 runBy u (load b g o k) w = then (reads b g o) (runBy u (k (readMem b (w .ram) (w .rom) g o)) w)

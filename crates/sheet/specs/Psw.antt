@@ -3,7 +3,7 @@ use mathlib.Core.Bool.{Bool, false, _&&_}
 use Prim.Native.Nat.{ℕ, _+_, _*_, _/_, _%_}
 use lib.Dec.{eqb}
 use mir.Val.{boolByte}
-use Rattle.sheet.specs.Width.{pick}
+use Rattle.sheet.specs.Width.{pick, odd}
 
 -- OV is V: antt has that name for itself
 pub data Flag : Type 0 where
@@ -27,7 +27,7 @@ bit b = boolByte b
 
 -- whether the digit of x at the power of two d is 1
 abbrev pub at : ℕ → ℕ → Bool
-at x d = eqb (x / d % 2) 1
+at x d = odd (x / d)
 
 abbrev pub flagOf : ℕ → Flag → Bool
 flagOf x f = at x (weight f)

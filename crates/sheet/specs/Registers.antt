@@ -76,19 +76,20 @@ inSs = 2
 abbrev pub inDs0 : ℕ
 inDs0 = 3
 
--- the register of a width that n names: of bytes, 0 to 3 are the low and 4 to 7 the high halves of AW CW DW BW
-unfoldable pub readReg : Bool → File → ℕ → ℕ
-readReg true r n = r (n % 8)
-readReg false r n = pick (ltb (n % 8) 4) (r (n % 8) % 256) (r (n % 4) / 256)
-
--- the word register in which it stands, and what that holds once v is written
-unfoldable pub regIndex : Bool → ℕ → ℕ
+-- the word register in which the register of a width that n names stands
+abbrev pub regIndex : Bool → ℕ → ℕ
 regIndex true n = n % 8
-regIndex false n = pick (ltb (n % 8) 4) (n % 8) (n % 4)
+regIndex false n = n % 4
 
+-- what it holds: of bytes, 0 to 3 are the low and 4 to 7 the high halves of AW CW DW BW
+unfoldable pub readReg : Bool → File → ℕ → ℕ
+readReg true r n = r (regIndex true n)
+readReg false r n = pick (ltb (n % 8) 4) (r (regIndex false n) % 256) (r (regIndex false n) / 256)
+
+-- what that word register holds once v is written
 unfoldable pub regWord : Bool → File → ℕ → ℕ → ℕ
 regWord true r n v = v
-regWord false r n v = pick (ltb (n % 8) 4) (r (n % 8) / 256 * 256 + v % 256) (v % 256 * 256 + r (n % 4) % 256)
+regWord false r n v = pick (ltb (n % 8) 4) (r (regIndex false n) / 256 * 256 + v % 256) (v % 256 * 256 + r (regIndex false n) % 256)
 
 -- the byte registers that instructions name themselves
 abbrev pub AL : ℕ

@@ -34,7 +34,7 @@ runs budget w = runsBy (λ i. kept) budget w
 
 -- what a run reports: number, world, steps done and bus
 pub data RunReport : Type 0 where
-  runReport : ℕ → World → ℕ → Bus → RunReport
+  runReported : ℕ → World → ℕ → Bus → RunReport
 
 abbrev pub ranReport : Ran → RunReport
-ranReport (ran n w k t) = runReport n w k (tally t)
+ranReport (ran n w k t) = runReported n w k (tally t)

@@ -12,7 +12,7 @@ use Rattle.sheet.specs.declared.Bus.{Bus}
 use Rattle.sheet.specs.declared.Stack.the-variants.{Prepare}
 use Rattle.sheet.specs.declared.Instr.{Instr}
 use Rattle.sheet.specs.declared.Instr.the-variants.{Stacks}
-use Rattle.sheet.specs.Width.{pick, sub16}
+use Rattle.sheet.specs.Width.{pick, wrapOf, sub16}
 use Rattle.sheet.specs.Psw.{Flag, BRK, Effect, flagOf, entering}
 use Rattle.sheet.specs.Registers.{SP, BP, PS, PC, PSW, File, fileOf}
 use Rattle.sheet.specs.Memory.{byteAt, busCycles, readMem}
@@ -148,7 +148,7 @@ of-execute size n w o =
 
 -- ---- the single-step trap: its vector is even, its three pushes are odd
 
-of-psw : (w : World) → OddIn w → Exactly OddIn 0 (pswOf (w .state)) (exec (psw true) w)
+of-psw : (w : World) → OddIn w → Exactly OddIn 0 (wrapOf true (pswOf (w .state))) (exec (psw true) w)
 unfolding exec run runBy tally
 of-psw w o = exactly o refl
 

@@ -10,7 +10,7 @@ use Rattle.sheet.specs.declared.Entry.{Entry}
 use Rattle.sheet.specs.World.{World, world}
 use Rattle.sheet.specs.Handler.{nothing}
 use Rattle.sheet.specs.Step.{reset}
-use Rattle.sheet.specs.Run.{RunReport, runReport}
+use Rattle.sheet.specs.Run.{RunReport, runReported}
 use Rattle.portlog.specs.declared.Put.{Put}
 use Rattle.portlog.specs.declared.Put.the-variants.{Done, Full, Beyond}
 use Rattle.portlog.specs.Put.{putNumber, putCount, Logs}
@@ -47,7 +47,7 @@ interrupt-once x y =
     let (state, ram, log) = parts _ _ _ _ _ _ _ _ left in
     (number, state, ram, bus)
 
-report-of-run-once : (r : RunReport) (n n₂ : ℕ) (w w₂ : World) (k k₂ : ℕ) (b b₂ : Bus) → r ≡ runReport n w k b → r ≡ runReport n₂ w₂ k₂ b₂ → (n ≡ n₂) × (w ≡ w₂) × (k ≡ k₂) × (b ≡ b₂)
+report-of-run-once : (r : RunReport) (n n₂ : ℕ) (w w₂ : World) (k k₂ : ℕ) (b b₂ : Bus) → r ≡ runReported n w k b → r ≡ runReported n₂ w₂ k₂ b₂ → (n ≡ n₂) × (w ≡ w₂) × (k ≡ k₂) × (b ≡ b₂)
 report-of-run-once r n n₂ w w₂ k k₂ b b₂ e f = (cc, cc, cc, cc)
 
 pub run-once : {budget : ℕ} {s : State} {ram rom tape log : List ℕ} {n n₂ : ℕ} {s′ s₂ : State} {ram′ ram₂ log′ log₂ : List ℕ} {k k₂ : ℕ} {b b₂ : Bus}

@@ -12,7 +12,7 @@ use Rattle.sheet.specs.declared.Primitive.{Primitive}
 use Rattle.sheet.specs.declared.Primitive.the-variants.{Movbk, Cmpbk, Cmpm, Ldm, Stm, Inm, Outm}
 use Rattle.sheet.specs.Width.{pick}
 use Rattle.sheet.specs.Psw.{DIR, column}
-use Rattle.sheet.specs.Registers.{AW, IX, IY, DS1, fileOf, segment, readReg, regIndex}
+use Rattle.sheet.specs.Registers.{AW, IX, IY, DS1, fileOf, segment, readReg}
 use Rattle.sheet.specs.Memory.{byteAt, readMem, writeMem}
 use Rattle.sheet.specs.World.{World, world, withFile}
 use Rattle.sheet.specs.Act.{_>>=_}
@@ -70,7 +70,7 @@ worked k b seg w =
 
 pub primitive-is : (k : Primitive) (b : Bool) (seg : ℕ) (w : World) → ofMemory k ≡ true
     → run (primitive k b seg) w ≡ done tt (worked k b seg w) (trace k b seg (w .state .file) (w .ram) (w .rom))
-unfolding run runBy primitive stepIndex sourceElement targetElement setTarget regValue setReg regIndex _>>=_ fileAfter ramAfter trace made stepped compared loaded
+unfolding run runBy primitive stepIndex sourceElement targetElement setTarget regValue setReg _>>=_ fileAfter ramAfter trace made stepped compared loaded
 primitive-is Movbk b seg w m = refl
 primitive-is Cmpbk b seg w m = refl
 primitive-is Cmpm b seg w m = refl

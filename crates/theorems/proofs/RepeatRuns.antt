@@ -3,12 +3,13 @@ use Prim.Native.Nat.{ℕ}
 use mathlib.Core.Path.{_≡_, refl, ap, _∙_}
 use mathlib.Core.Bool.{Bool}
 use mathlib.Core.List.{List, [], _∷_, _++_}
+use Rattle.sheet.specs.Width.{wrapOf}
 use Rattle.sheet.specs.Psw.{keeps, flagOf, settled}
 use Rattle.sheet.specs.Registers.{fileOf, written}
 use Rattle.sheet.specs.Memory.{readMem, writeMem}
 use Rattle.sheet.specs.World.{World, withState, withRam, pswOf, withFile, withPsw, withHalted}
 use Rattle.sheet.specs.Act.{Act, pure, refuse, get, put, ask, copy, flags, load, store, input, output, halt, _>>=_}
-use Rattle.sheet.specs.Handler.{Access, short, through, inputs, outputs, Event, reads, writes, takes, gives, asks, copies, changes, Outcome, refused, done, then, ported, copied, runBy, run}
+use Rattle.sheet.specs.Handler.{Access, short, through, inputs, outputs, Event, reads, writes, takes, gives, asks, copies, changes, Outcome, refused, done, then, ported, runBy, run}
 
 -- events in front of an outcome
 prepend : {A : Type 0} → List Event → Outcome A → Outcome A
@@ -41,7 +42,7 @@ run-bind (ask q k) f w =
     let b : Bool = flagOf (pswOf (w .state)) q in
     ap (then (asks q)) (run-bind (k b) f w) ∙ after-then (asks q) (run (k b) w) (λ a v. run (f a) v)
 run-bind (copy b k) f w =
-    let x : ℕ = copied b (pswOf (w .state)) in
+    let x : ℕ = wrapOf b (pswOf (w .state)) in
     ap (then (copies b)) (run-bind (k x) f w) ∙ after-then (copies b) (run (k x) w) (λ a v. run (f a) v)
 run-bind (flags c p) f w =
     let u : World = withState w (withPsw (w .state) (settled keeps c (pswOf (w .state)))) in

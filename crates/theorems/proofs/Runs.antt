@@ -10,7 +10,7 @@ use Rattle.sheet.specs.Width.{pick}
 use Rattle.sheet.specs.World.{World}
 use Rattle.sheet.specs.Handler.{Event, Outcome, refused, done, kept, _⊕_, tally}
 use Rattle.sheet.specs.Step.{fits, sound, step}
-use Rattle.sheet.specs.Run.{Ran, ran, more, onward, stepsBy, runsBy, runs, runReport, ranReport}
+use Rattle.sheet.specs.Run.{Ran, ran, more, onward, stepsBy, runsBy, runs, runReported, ranReport}
 use Rattle.theorems.specs.Runs.{Walk, none, step-then, RunOf, unfit, unsound, spent, stopped, after}
 use Rattle.engine.proofs.RunLaws.{tally-both, sound-so, fits-so}
 use Rattle.sheet.proofs.StepLaws.{step-leaves}
@@ -166,5 +166,5 @@ run-splits a b w v n t l e = go (fits w) (sound w) refl refl
 
 -- so in what is reported: the steps add up, and so do the cycles
 pub run-splits-report : (a b : ℕ) (w v x : World) (n m k : ℕ) (t s : List Event) → length (w .state .file) ≡ 14
-    → runs a w ≡ ran n v a t → runs b v ≡ ran m x k s → ranReport (runs (a + b) w) ≡ runReport m x (a + k) (tally t ⊕ tally s)
+    → runs a w ≡ ran n v a t → runs b v ≡ ran m x k s → ranReport (runs (a + b) w) ≡ runReported m x (a + k) (tally t ⊕ tally s)
 run-splits-report a b w v x n m k t s l e h = rw (run-splits a b w v n t l e, h, tally-both t s)

@@ -12,7 +12,7 @@ use Rattle.sheet.specs.World.{World, world}
 use Rattle.sheet.specs.Handler.{Event, Outcome, refused, done, _⊕_, tally}
 use Rattle.sheet.specs.Contract.{seen, report, reportOf}
 use Rattle.sheet.specs.Step.{fits, sound, step, stepReport}
-use Rattle.sheet.specs.Run.{Ran, ran, runs, runReport, ranReport}
+use Rattle.sheet.specs.Run.{Ran, ran, runs, runReported, ranReport}
 use Rattle.engine.specs.Steps.{Steps}
 use Rattle.engine.specs.Runs.{Runs}
 use Rattle.theorems.specs.Bounds.{Bytes}
@@ -80,7 +80,7 @@ record CameTo (r : Ran) (n : ℕ) (v : World) (k : ℕ) (b : Bus) : Type 0 where
   is : r ≡ ran n v k events
   sum : tally events ≡ b
 
-came-to : (r : Ran) (n : ℕ) (v : World) (k : ℕ) (b : Bus) → ranReport r ≡ runReport n v k b → CameTo r n v k b
+came-to : (r : Ran) (n : ℕ) (v : World) (k : ℕ) (b : Bus) → ranReport r ≡ runReported n v k b → CameTo r n v k b
 came-to (ran m w j t) n v k b e =
     let x : m ≡ n = cc in
     let y : w ≡ v = cc in

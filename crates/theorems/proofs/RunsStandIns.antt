@@ -10,7 +10,7 @@ use Rattle.sheet.specs.Registers.{PC}
 use Rattle.sheet.specs.World.{World}
 use Rattle.sheet.specs.Handler.{refused, nothing, tally}
 use Rattle.sheet.specs.Step.{fits, sound, awake, stepBy, step}
-use Rattle.sheet.specs.Run.{runs, RunReport, runReport, ranReport}
+use Rattle.sheet.specs.Run.{runs, RunReport, runReported, ranReport}
 use Rattle.sheet.proofs.SmallTable.{small-table}
 use Rattle.theorems.specs.Bounds.{Done}
 use Rattle.theorems.specs.Runs.{none, step-then, spent, stopped}
@@ -24,7 +24,7 @@ use Rattle.theorems.proofs.Runs.{run-only}
 one-step : Done (step subtracting) subtracted (record { cycles = 3 })
 one-step = step-done subtracting subtracted (record { cycles = 3 }) (bytes-of (subtracting .ram) refl) (bytes-of (subtracting .rom) refl) (small-table .sub4s)
 
-run-one : ranReport (runs 1 subtracting) ≡ runReport 0 subtracted 1 (record { cycles = 3 })
+run-one : ranReport (runs 1 subtracting) ≡ runReported 0 subtracted 1 (record { cycles = 3 })
 unfolding fits sound
 run-one =
     let r = run-only 1 subtracting _ (spent refl refl (step-then (one-step .is) none)) in
@@ -34,17 +34,17 @@ asleep-refuses : step asleep ≡ refused 8 []
 unfolding step stepBy awake fits sound
 asleep-refuses = refl
 
-run-asleep : ranReport (runs 5 asleep) ≡ runReport 8 asleep 0 nothing
+run-asleep : ranReport (runs 5 asleep) ≡ runReported 8 asleep 0 nothing
 unfolding fits sound tally
 run-asleep = rw (run-only 5 asleep _ (stopped refl refl (lit< tt) none asleep-refuses))
 
 -- ---- engines
 
 module _ (engine : ℕ → World → RunReport) (meets : MeetsRun engine) where
-  at-one : engine 1 subtracting ≡ runReport 0 subtracted 1 (record { cycles = 3 })
+  at-one : engine 1 subtracting ≡ runReported 0 subtracted 1 (record { cycles = 3 })
   at-one = sym (meets 1 subtracting (lit≤ tt) refl) ∙ run-one
 
-  at-asleep : engine 5 asleep ≡ runReport 8 asleep 0 nothing
+  at-asleep : engine 5 asleep ≡ runReported 8 asleep 0 nothing
   at-asleep = sym (meets 5 asleep (lit≤ tt) refl) ∙ run-asleep
 
   -- an engine that always stops with a refusal

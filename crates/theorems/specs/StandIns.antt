@@ -11,7 +11,7 @@ use Rattle.sheet.specs.World.{World, world}
 use Rattle.sheet.specs.Contract.{Report, report}
 use Rattle.sheet.specs.Log.{rule, readLog}
 use Rattle.sheet.specs.Step.{stepReport, interruptReport}
-use Rattle.sheet.specs.Run.{runs, RunReport, runReport, ranReport}
+use Rattle.sheet.specs.Run.{runs, RunReport, runReported, ranReport}
 
 -- the numbers of a buffer are at most n
 abbrev pub every : ℕ → List ℕ → Bool
@@ -54,16 +54,16 @@ abbrev pub busOf : Report → Bus
 busOf (report n w b) = b
 
 abbrev pub answerOf : RunReport → ℕ
-answerOf (runReport n w k b) = n
+answerOf (runReported n w k b) = n
 
 abbrev pub leftBy : RunReport → World
-leftBy (runReport n w k b) = w
+leftBy (runReported n w k b) = w
 
 abbrev pub stepsOf : RunReport → ℕ
-stepsOf (runReport n w k b) = k
+stepsOf (runReported n w k b) = k
 
 abbrev pub cyclesOf : RunReport → ℕ
-cyclesOf (runReport n w k b) = b .cycles
+cyclesOf (runReported n w k b) = b .cycles
 
 -- ---- three machines: SUB4S, ADJ4A (document 01's second and first example), and one that is halted
 

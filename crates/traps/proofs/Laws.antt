@@ -1,5 +1,5 @@
 -- What each return of the code comes to, over plain values.
-use Prim.Native.Nat.{ℕ, _+_, _*_, _%_, _≤_}
+use Prim.Native.Nat.{ℕ, _+_, _*_, _%_, _≤_, _<_}
 use mathlib.Core.Bool.{true}
 use mathlib.Core.List.{List}
 use mathlib.Core.Path.{_≡_, refl}
@@ -16,6 +16,7 @@ use Rattle.sheet.specs.Traps.{push, pop, save, trap}
 use Rattle.sheet.specs.Contract.{OnMemory}
 use Rattle.sheet.proofs.Rules.{⊕-assoc}
 use Rattle.sheet.proofs.Lifted.{file-seq, file-pure, file-registers, file-set, file-psw, file-flags, memory-seq, memory-free, memory-last}
+use Rattle.word.proofs.WidthLaws.{wrap-id}
 use Rattle.memory.specs.Accesses.{Loads, Stores}
 use Rattle.traps.specs.PushTwo.{pushTwo}
 use Rattle.traps.specs.Vector.{Fetches}
@@ -36,12 +37,12 @@ pub two-are : (f g h ram ram₁ ram₂ rom : List ℕ) (x y : ℕ) (n m : Bus) �
 unfolding pushTwo
 two-are f g h ram ram₁ ram₂ rom x y n m p q = memory-seq _ p q
 
-pub save-is : (f g h ram ram₁ ram₂ rom : List ℕ) (old x ps pc : ℕ) (n m : Bus) → old ≡ getD f PSW 0 → OnMemory Unit (push old) f ram rom tt g ram₁ n 2
+pub save-is : (f g h ram ram₁ ram₂ rom : List ℕ) (old x ps pc : ℕ) (n m : Bus) → old ≡ getD f PSW 0 → old < 65536 → OnMemory Unit (push old) f ram rom tt g ram₁ n 2
     → x ≡ settled keeps entering (getD g PSW 0) → ps ≡ getD (set g PSW x) PS 0 → pc ≡ getD (set g PSW x) PC 0
     → OnMemory Unit (pushTwo ps pc) (set g PSW x) ram₁ rom tt h ram₂ m 4 → OnMemory Unit save f ram rom tt h ram₂ (n ⊕ m) 6
 unfolding save pushTwo
-save-is f g h ram ram₁ ram₂ rom old x ps pc n m e p q i j k =
-    memory-free _ (file-psw true) (rw (← e) (memory-seq _ {t = 2} {u = 4} p (memory-free _ (file-flags entering q) (memory-free _ file-registers (rw (← i, ← j) k)))))
+save-is f g h ram ram₁ ram₂ rom old x ps pc n m e l p q i j k =
+    memory-free _ (file-psw true) (rw (← e, wrap-id true old l) (memory-seq _ {t = 2} {u = 4} p (memory-free _ (file-flags entering q) (memory-free _ file-registers (rw (← i, ← j) k)))))
 
 -- a word at an even offset takes one cycle
 even-word : (o : ℕ) (n : Bus) → n ≡ busOf true o → o % 2 ≡ 0 → n .cycles ≤ 1

@@ -46,7 +46,7 @@ pub fn push_two(file: &mut [u16; 14], ram: &mut [u8], rom: &[u8], x: u16, y: u16
 pub fn save(file: &mut [u16; 14], ram: &mut [u8], rom: &[u8]) -> Bus
     ensures { λ r. ⌜ OnMemory Unit tree.save (now (file .entry)) (now (ram .entry)) (now (rom .entry)) tt (now (file .exit)) (now (ram .exit)) r 6 ⌝ }
 {
-    let old = file[PSW];
+    let old = word::word(file[PSW]);
     let a = push(file, ram, rom, old);
     file[PSW] = psw::enter(file[PSW]);
     let ps = file[PS];

@@ -7,4 +7,5 @@ returns : tie.Need-returns
 returns c = search (push-psw-is, needs)
 
 pub push-psw-spec : {M : Type 1} → statement M
-push-psw-spec = tie.close (tie.spec (λ c. search needs) (λ c κs. search needs) (λ c. search needs) returns)
+push-psw-spec =
+    tie.close (tie.spec (λ c. search needs) (λ c κs. search needs) (λ c κs. search needs) (λ c. search needs) returns)

@@ -22,9 +22,7 @@ reg-spec =
     returns
     (λ c. search needs)
     (λ c. search needs)
-    returns-2
-    (λ c. search needs)
-    (λ c. search needs)
     (λ c. search needs)
     (λ c κs. search needs)
+    returns-2
     returns-3)
