@@ -1,7 +1,7 @@
 // The two widths of an operand in code: `word` is the sheet's bit W, true for a word and false for a byte. No function here has a precondition.
 ghost use mathlib.Core.Path.{_≡_};
 ghost use Prim.Native.Nat.{_≤_};
-ghost use Rattle.sheet.specs.Width.{pick, modOf, halfOf, wrapOf, signOf, evenOf, add16, sub16, extend};
+ghost use Rattle.sheet.specs.Width.{pick, modOf, halfOf, bytesOf, wrapOf, signOf, evenOf, add16, sub16, extend};
 ghost use Rattle.sheet.specs.Psw.{bit};
 
 // The low 16 or 8 bits.
@@ -27,6 +27,13 @@ pub fn half(word: bool) -> u16
     ensures { λ r. ⌜ (r ≡ halfOf word) × (r ≤ 32768) ⌝ }
 {
     if word { 32768 } else { 128 }
+}
+
+// How many bytes an operand has, with its bound for the same use.
+pub fn bytes(word: bool) -> u16
+    ensures { λ r. ⌜ (r ≡ bytesOf word) × (r ≤ 2) ⌝ }
+{
+    if word { 2 } else { 1 }
 }
 
 // Bit 15 or 7.
