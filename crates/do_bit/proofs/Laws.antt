@@ -1,12 +1,12 @@
 -- What each instruction comes to, from what its parts come to.
 use Prim.Native.Nat.{ℕ}
 use mathlib.Core.Path.{_≡_}
-use mathlib.Core.Bool.{Bool, true, false, not}
+use mathlib.Core.Bool.{Bool, not}
 use mathlib.Core.List.{List}
 use lib.ListN.{getD, set}
 use Rattle.sheet.specs.declared.Amount.{Amount}
 use Rattle.sheet.specs.declared.Bit.{Bit}
-use Rattle.sheet.specs.declared.Bit.the-variants.{Test1, Clr1, Set1, Not1}
+use Rattle.sheet.specs.declared.Bit.the-variants.{Test1, Not1}
 use Rattle.sheet.specs.declared.Bus.{Bus}
 use Rattle.sheet.specs.declared.Place.{Place}
 use Rattle.sheet.specs.declared.Spot.{Spot}
@@ -24,13 +24,8 @@ module _ (f g ram ram′ rom : List ℕ) (w : Bool) (s : Spot) (x : ℕ) (n : Bu
   written-is i v b e h = rw e at h
 
   module _ (op : Bit) (i : ℕ) where
-    pub at-clr : op ≡ Clr1 → OnMemory Unit (deposit w s (withBit x i false)) f ram rom tt g ram′ n 2 → OnMemory Unit (bitDone op w s x i) f ram rom tt g ram′ n 2
-    unfolding bitDone
-    at-clr e h = rw e h
-
-    pub at-set : op ≡ Set1 → OnMemory Unit (deposit w s (withBit x i true)) f ram rom tt g ram′ n 2 → OnMemory Unit (bitDone op w s x i) f ram rom tt g ram′ n 2
-    unfolding bitDone
-    at-set e h = rw e h
+    pub bit-known : (o : Bit) → op ≡ o → OnMemory Unit (bitDone o w s x i) f ram rom tt g ram′ n 2 → OnMemory Unit (bitDone op w s x i) f ram rom tt g ram′ n 2
+    bit-known o e h = rw e h
 
     pub at-not : (b : Bool) → op ≡ Not1 → b ≡ bitAt x i → OnMemory Unit (deposit w s (withBit x i (not b))) f ram rom tt g ram′ n 2 → OnMemory Unit (bitDone op w s x i) f ram rom tt g ram′ n 2
     unfolding bitDone

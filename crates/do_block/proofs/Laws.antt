@@ -4,33 +4,28 @@ use mathlib.Core.Path.{_≡_}
 use mathlib.Core.Bool.{Bool, false}
 use mathlib.Core.List.{List}
 use lib.Dec.{lit≤}
-use lib.ListN.{getD, set}
+use lib.ListN.{getD}
 use Rattle.sheet.specs.declared.Bus.{Bus}
-use Rattle.sheet.specs.declared.Flagged.{Flagged}
 use Rattle.sheet.specs.declared.Primitive.{Primitive}
 use Rattle.sheet.specs.declared.Primitive.the-variants as sheet
 use Rattle.sheet.specs.declared.Repeat.{Repeat}
 use Rattle.sheet.specs.Psw.{column}
-use Rattle.sheet.specs.Registers.{AW, CW, IX, IY, PSW, fileOf, readReg}
+use Rattle.sheet.specs.Registers.{AW, CW, IX, IY, fileOf, readReg}
 use Rattle.sheet.specs.Act.{affect}
-use Rattle.sheet.specs.Handler.{nothing, _⊕_}
-use Rattle.sheet.specs.Operand.{regValue, setReg}
+use Rattle.sheet.specs.Handler.{_⊕_}
+use Rattle.sheet.specs.Operand.{setReg}
 use Rattle.sheet.specs.Arithmetic.{difference}
 use Rattle.sheet.specs.Block.{stepIndex, sourceElement, targetElement, setTarget, primitive, element, block}
-use Rattle.sheet.specs.Contract.{OnFile, OnMemory, flagged}
-use Rattle.sheet.proofs.Lifted.{file-seq, file-pure, file-registers, file-flags, memory-seq, memory-free, memory-last, memory-at-most, on-memory}
+use Rattle.sheet.specs.Contract.{OnFile, OnMemory}
+use Rattle.sheet.proofs.Lifted.{file-seq, memory-seq, memory-free, memory-last, memory-at-most}
+use Rattle.registers.proofs.Laws.{file-reg}
 use Rattle.elements.specs.declared.Due.{Due}
-use Rattle.elements.specs.declared.Due.the-variants.{Nothing, Single, Element}
 use Rattle.elements.specs.AfterElement.{afterElement}
 use Rattle.elements.specs.Due.{dueOf, dueTree}
 use Rattle.elements.proofs.DueLaws.{element-is, due-memory}
 use Rattle.do_block.specs.declared.Portless.{Portless}
 use Rattle.do_block.specs.declared.Portless.the-variants.{Movbk, Cmpbk, Cmpm, Ldm, Stm}
 use Rattle.do_block.specs.Portless.{primitiveOf}
-
-pub compare-is : (w : Bool) (f : List ℕ) (a b : ℕ) (y : Flagged) → y ≡ flagged (difference w a b false) (getD f PSW 0) → OnFile Unit (affect (difference w a b false .column)) f tt (set f PSW (y .psw))
-unfolding flagged
-compare-is w f a b y e = file-flags (column (difference w a b false .column)) (rw e)
 
 module _ (f g h ram ram′ rom : List ℕ) (w : Bool) (seg : ℕ) where
   pub movbk-is : (v : ℕ) (n m : Bus) → OnMemory ℕ (sourceElement w seg) f ram rom v f ram n 2 → OnMemory Unit (setTarget w v) f ram rom tt f ram′ m 2
@@ -40,8 +35,8 @@ module _ (f g h ram ram′ rom : List ℕ) (w : Bool) (seg : ℕ) where
 
   pub stm-is : (v : ℕ) (n : Bus) → v ≡ readReg w (fileOf f) AW → OnMemory Unit (setTarget w v) f ram rom tt g ram′ n 2 → OnFile Unit (stepIndex w IY) g tt h
       → OnMemory Unit (primitive sheet.Stm w seg) f ram rom tt h ram′ n 4
-  unfolding primitive regValue
-  stm-is v n e p q = memory-at-most {t = 2} 4 (lit≤ tt) (memory-free _ (file-seq _ file-registers file-pure) (rw (← e) (memory-last _ p q)))
+  unfolding primitive
+  stm-is v n e p q = memory-at-most {t = 2} 4 (lit≤ tt) (memory-free _ (file-reg w AW e) (memory-last _ p q))
 
 module _ (f g h ram rom : List ℕ) (w : Bool) (seg : ℕ) where
   pub cmpbk-is : (k : List ℕ) (a b : ℕ) (n m : Bus) → OnMemory ℕ (sourceElement w seg) f ram rom a f ram n 2 → OnMemory ℕ (targetElement w) f ram rom b f ram m 2
@@ -52,8 +47,8 @@ module _ (f g h ram rom : List ℕ) (w : Bool) (seg : ℕ) where
 
   pub cmpm-is : (a b : ℕ) (n : Bus) → a ≡ readReg w (fileOf f) AW → OnMemory ℕ (targetElement w) f ram rom b f ram n 2 → OnFile Unit (affect (difference w a b false .column)) f tt g
       → OnFile Unit (stepIndex w IY) g tt h → OnMemory Unit (primitive sheet.Cmpm w seg) f ram rom tt h ram n 4
-  unfolding primitive regValue
-  cmpm-is a b n e p c y = memory-at-most {t = 2} 4 (lit≤ tt) (memory-free _ (file-seq _ file-registers file-pure) (rw (← e) (memory-last _ p (file-seq _ c y))))
+  unfolding primitive
+  cmpm-is a b n e p c y = memory-at-most {t = 2} 4 (lit≤ tt) (memory-free _ (file-reg w AW e) (memory-last _ p (file-seq _ c y)))
 
   pub ldm-is : (v : ℕ) (n : Bus) → OnMemory ℕ (sourceElement w seg) f ram rom v f ram n 2 → OnFile Unit (setReg w AW v) f tt g → OnFile Unit (stepIndex w IX) g tt h
       → OnMemory Unit (primitive sheet.Ldm w seg) f ram rom tt h ram n 4
@@ -63,20 +58,8 @@ module _ (f g h ram rom : List ℕ) (w : Bool) (seg : ℕ) where
 -- ---- the group
 
 module _ (i : Portless) (f g ram ram′ rom : List ℕ) (n : Bus) (w : Bool) (seg : ℕ) where
-  pub at-movbk : i ≡ Movbk → OnMemory Unit (primitive sheet.Movbk w seg) f ram rom tt g ram′ n 4 → OnMemory Unit (primitive (primitiveOf i) w seg) f ram rom tt g ram′ n 4
-  at-movbk e h = rw e h
-
-  pub at-cmpbk : i ≡ Cmpbk → OnMemory Unit (primitive sheet.Cmpbk w seg) f ram rom tt g ram′ n 4 → OnMemory Unit (primitive (primitiveOf i) w seg) f ram rom tt g ram′ n 4
-  at-cmpbk e h = rw e h
-
-  pub at-cmpm : i ≡ Cmpm → OnMemory Unit (primitive sheet.Cmpm w seg) f ram rom tt g ram′ n 4 → OnMemory Unit (primitive (primitiveOf i) w seg) f ram rom tt g ram′ n 4
-  at-cmpm e h = rw e h
-
-  pub at-ldm : i ≡ Ldm → OnMemory Unit (primitive sheet.Ldm w seg) f ram rom tt g ram′ n 4 → OnMemory Unit (primitive (primitiveOf i) w seg) f ram rom tt g ram′ n 4
-  at-ldm e h = rw e h
-
-  pub at-stm : i ≡ Stm → OnMemory Unit (primitive sheet.Stm w seg) f ram rom tt g ram′ n 4 → OnMemory Unit (primitive (primitiveOf i) w seg) f ram rom tt g ram′ n 4
-  at-stm e h = rw e h
+  pub kind-known : (j : Portless) → i ≡ j → OnMemory Unit (primitive (primitiveOf j) w seg) f ram rom tt g ram′ n 4 → OnMemory Unit (primitive (primitiveOf i) w seg) f ram rom tt g ram′ n 4
+  kind-known j e h = rw e h
 
 -- ---- one element, and what is due
 
@@ -85,15 +68,6 @@ module _ (k : Primitive) (w : Bool) (seg : ℕ) (q : Repeat) (start : ℕ) (f ra
       → OnMemory Unit (element k w seg q start) f ram rom tt h ram′ n 4
   one-element i g h ram′ n e p x = rw (element-is k w seg q start) (memory-last _ p (rw e at x))
 
-  pub nothing-due : (d : Due) → d ≡ dueOf (getD f CW 0) q → d ≡ Nothing → OnMemory Unit (block k w seg q start) f ram rom tt f ram nothing 4
-  unfolding dueTree
-  nothing-due d e z = due-memory k w seg q start d e (rw z (on-memory ram rom 4 file-pure))
-
-  module _ (d : Due) (g ram′ : List ℕ) (n : Bus) where
-    pub single-due : d ≡ dueOf (getD f CW 0) q → d ≡ Single → OnMemory Unit (primitive k w seg) f ram rom tt g ram′ n 4 → OnMemory Unit (block k w seg q start) f ram rom tt g ram′ n 4
-    unfolding dueTree
-    single-due e z h = due-memory k w seg q start d e (rw z h)
-
-    pub element-due : d ≡ dueOf (getD f CW 0) q → d ≡ Element → OnMemory Unit (element k w seg q start) f ram rom tt g ram′ n 4 → OnMemory Unit (block k w seg q start) f ram rom tt g ram′ n 4
-    unfolding dueTree
-    element-due e z h = due-memory k w seg q start d e (rw z h)
+  pub due-known : (d e : Due) (g ram′ : List ℕ) (n : Bus) → d ≡ dueOf (getD f CW 0) q → d ≡ e → OnMemory Unit (dueTree e k w seg q start) f ram rom tt g ram′ n 4
+      → OnMemory Unit (block k w seg q start) f ram rom tt g ram′ n 4
+  due-known d e g ram′ n p z h = due-memory k w seg q start d p (rw z h)

@@ -3,21 +3,19 @@ use Prim.Native.Nat.{ℕ}
 use mathlib.Core.Path.{_≡_}
 use mathlib.Core.Bool.{true}
 use mathlib.Core.List.{List}
-use lib.Dec.{lit≤}
 use lib.ListN.{getD, set}
 use Rattle.sheet.specs.declared.Bus.{Bus}
 use Rattle.sheet.specs.declared.Address.{Address}
 use Rattle.sheet.specs.declared.Place.{Place}
 use Rattle.sheet.specs.declared.Branch.{Branch}
-use Rattle.sheet.specs.declared.Branch.the-variants.{CallNear, CallTo, CallFar, CallFarAt, Ret, RetPop, RetFar, RetFarPop, BrNear, BrShort, BrTo, BrFar, BrFarAt}
 use Rattle.sheet.specs.Width.{add16}
 use Rattle.sheet.specs.Registers.{SP, PC, fileOf}
 use Rattle.sheet.specs.Handler.{nothing, _⊕_}
 use Rattle.sheet.specs.Operand.{baseOf, offsetOf, valueAt}
 use Rattle.sheet.specs.Traps.{pop}
-use Rattle.sheet.specs.Branch.{jump, jumpFar, callNear, callTo, callFar, callFarAt, release, ret, retPop, retFar, retFarPop, brTo, brFarAt, branch}
+use Rattle.sheet.specs.Branch.{jumpFar, release, ret, retPop, retFar, retFarPop, brTo, brFarAt, branch}
 use Rattle.sheet.specs.Contract.{OnFile, OnMemory}
-use Rattle.sheet.proofs.Lifted.{file-seq, file-registers, file-set, memory-seq, memory-free, memory-last, memory-at-most, on-memory}
+use Rattle.sheet.proofs.Lifted.{file-known, file-seq, file-registers, file-set, memory-seq, memory-free, memory-last, on-memory}
 use Rattle.memory.specs.Accesses.{Loads}
 
 module _ (f g h ram rom : List ℕ) where
@@ -52,57 +50,5 @@ module _ (f g h ram rom : List ℕ) where
   br-far-at-is a b o next ps pc n m e q z p r k =
       memory-free _ file-registers (rw (← e, ← q, ← z) (memory-seq _ {t = 2} {u = 2} (p .at f) (memory-last _ (r .at f) k)))
 
--- ---- the group
-
-module _ (i : Branch) (f g ram ram′ rom : List ℕ) (n : Bus) where
-  pub at-call-near : (disp : ℕ) → i ≡ CallNear disp → OnMemory Unit (callNear disp) f ram rom tt g ram′ n 2 → OnMemory Unit (branch i) f ram rom tt g ram′ n 8
-  unfolding branch
-  at-call-near disp e h = rw e (memory-at-most {t = 2} 8 (lit≤ tt) h)
-
-  pub at-call-to : (to : Place) → i ≡ CallTo to → OnMemory Unit (callTo to) f ram rom tt g ram′ n 4 → OnMemory Unit (branch i) f ram rom tt g ram′ n 8
-  unfolding branch
-  at-call-to to e h = rw e (memory-at-most {t = 4} 8 (lit≤ tt) h)
-
-  pub at-call-far : (ps pc : ℕ) → i ≡ CallFar ps pc → OnMemory Unit (callFar ps pc) f ram rom tt g ram′ n 4 → OnMemory Unit (branch i) f ram rom tt g ram′ n 8
-  unfolding branch
-  at-call-far ps pc e h = rw e (memory-at-most {t = 4} 8 (lit≤ tt) h)
-
-  pub at-call-far-at : (a : Address) → i ≡ CallFarAt a → OnMemory Unit (callFarAt a) f ram rom tt g ram′ n 8 → OnMemory Unit (branch i) f ram rom tt g ram′ n 8
-  unfolding branch
-  at-call-far-at a e h = rw e h
-
-  pub at-ret : i ≡ Ret → OnMemory Unit ret f ram rom tt g ram′ n 2 → OnMemory Unit (branch i) f ram rom tt g ram′ n 8
-  unfolding branch
-  at-ret e h = rw e (memory-at-most {t = 2} 8 (lit≤ tt) h)
-
-  pub at-ret-pop : (size : ℕ) → i ≡ RetPop size → OnMemory Unit (retPop size) f ram rom tt g ram′ n 2 → OnMemory Unit (branch i) f ram rom tt g ram′ n 8
-  unfolding branch
-  at-ret-pop size e h = rw e (memory-at-most {t = 2} 8 (lit≤ tt) h)
-
-  pub at-ret-far : i ≡ RetFar → OnMemory Unit retFar f ram rom tt g ram′ n 4 → OnMemory Unit (branch i) f ram rom tt g ram′ n 8
-  unfolding branch
-  at-ret-far e h = rw e (memory-at-most {t = 4} 8 (lit≤ tt) h)
-
-  pub at-ret-far-pop : (size : ℕ) → i ≡ RetFarPop size → OnMemory Unit (retFarPop size) f ram rom tt g ram′ n 4 → OnMemory Unit (branch i) f ram rom tt g ram′ n 8
-  unfolding branch
-  at-ret-far-pop size e h = rw e (memory-at-most {t = 4} 8 (lit≤ tt) h)
-
-  pub at-br-near : (disp : ℕ) → i ≡ BrNear disp → OnFile Unit (jump disp) f tt g → OnMemory Unit (branch i) f ram rom tt g ram nothing 8
-  unfolding branch
-  at-br-near disp e h = rw e (on-memory ram rom 8 h)
-
-  pub at-br-short : (disp : ℕ) → i ≡ BrShort disp → OnFile Unit (jump disp) f tt g → OnMemory Unit (branch i) f ram rom tt g ram nothing 8
-  unfolding branch
-  at-br-short disp e h = rw e (on-memory ram rom 8 h)
-
-  pub at-br-to : (to : Place) → i ≡ BrTo to → OnMemory Unit (brTo to) f ram rom tt g ram′ n 2 → OnMemory Unit (branch i) f ram rom tt g ram′ n 8
-  unfolding branch
-  at-br-to to e h = rw e (memory-at-most {t = 2} 8 (lit≤ tt) h)
-
-  pub at-br-far : (ps pc : ℕ) → i ≡ BrFar ps pc → OnFile Unit (jumpFar ps pc) f tt g → OnMemory Unit (branch i) f ram rom tt g ram nothing 8
-  unfolding branch
-  at-br-far ps pc e h = rw e (on-memory ram rom 8 h)
-
-  pub at-br-far-at : (a : Address) → i ≡ BrFarAt a → OnMemory Unit (brFarAt a) f ram rom tt g ram′ n 4 → OnMemory Unit (branch i) f ram rom tt g ram′ n 8
-  unfolding branch
-  at-br-far-at a e h = rw e (memory-at-most {t = 4} 8 (lit≤ tt) h)
+pub jump-known : (i j : Branch) (f g ram rom : List ℕ) → i ≡ j → OnFile Unit (branch j) f tt g → OnMemory Unit (branch i) f ram rom tt g ram nothing 8
+jump-known i j f g ram rom e h = on-memory ram rom 8 (file-known branch e h)

@@ -3,20 +3,20 @@ use Prim.Native.Nat.{ℕ}
 use mathlib.Core.Path.{_≡_}
 use mathlib.Core.Bool.{true}
 use mathlib.Core.List.{List}
-use lib.Dec.{lit≤}
 use lib.ListN.{getD, set}
 use Rattle.sheet.specs.declared.Bus.{Bus}
 use Rattle.sheet.specs.declared.Address.{Address}
 use Rattle.sheet.specs.declared.Place.{Place}
-use Rattle.sheet.specs.declared.Place.the-variants.{Register, Memory}
+use Rattle.sheet.specs.declared.Place.the-variants.{Memory}
 use Rattle.sheet.specs.Registers.{PS, PC, fileOf, readReg}
 use Rattle.sheet.specs.Act.{registers, _>>=_}
 use Rattle.sheet.specs.Handler.{_⊕_}
-use Rattle.sheet.specs.Operand.{regValue, valueAt, pairAt}
+use Rattle.sheet.specs.Operand.{valueAt, pairAt}
 use Rattle.sheet.specs.Traps.{push}
 use Rattle.sheet.specs.Branch.{jump, jumpFar, pushPc, callNear, callTo, callFar, callFarAt}
 use Rattle.sheet.specs.Contract.{OnFile, OnMemory}
-use Rattle.sheet.proofs.Lifted.{file-seq, file-pure, file-registers, file-set, memory-seq, memory-free, memory-last, memory-at-most}
+use Rattle.sheet.proofs.Lifted.{file-seq, file-registers, file-set, memory-seq, memory-free, memory-last}
+use Rattle.registers.proofs.Laws.{file-reg}
 use Rattle.traps.specs.PushTwo.{pushTwo}
 use Rattle.do_call.specs.Calls.{callRegister, callHeld}
 
@@ -31,17 +31,13 @@ module _ (f g ram ram′ rom : List ℕ) where
 
   pub call-register-is : (r x : ℕ) (n : Bus) → OnMemory Unit pushPc f ram rom tt g ram′ n 2 → x ≡ readReg true (fileOf g) r
       → OnMemory Unit (callRegister r) f ram rom tt (set g PC x) ram′ n 2
-  unfolding callRegister regValue
-  call-register-is r x n p e = memory-last _ p (file-seq _ (file-seq _ file-registers file-pure) (rw (← e) (file-set PC x)))
+  unfolding callRegister
+  call-register-is r x n p e = memory-last _ p (file-seq _ (file-reg true r e) (file-set PC x))
 
   pub call-held-is : (to : Place) (v : ℕ) (n m : Bus) → OnMemory ℕ (valueAt true to) f ram rom v f ram n 2 → OnMemory Unit pushPc f ram rom tt g ram′ m 2
       → OnMemory Unit (callHeld to) f ram rom tt (set g PC v) ram′ (n ⊕ m) 4
   unfolding callHeld
   call-held-is to v n m p q = memory-seq _ {t = 2} {u = 2} p (memory-last _ q (file-set PC v))
-
-  pub at-register : (to : Place) (r : ℕ) (n : Bus) → to ≡ Register r → OnMemory Unit (callRegister r) f ram rom tt g ram′ n 2 → OnMemory Unit (callTo to) f ram rom tt g ram′ n 4
-  unfolding callTo callRegister
-  at-register to r n e h = rw e (memory-at-most {t = 2} 4 (lit≤ tt) h)
 
   pub at-memory : (to p : Place) (a : Address) (n : Bus) → to ≡ Memory a → p ≡ Memory a → OnMemory Unit (callHeld p) f ram rom tt g ram′ n 4 → OnMemory Unit (callTo to) f ram rom tt g ram′ n 4
   unfolding callTo callHeld

@@ -6,12 +6,11 @@ use mathlib.Core.List.{List}
 use native.Mathlib.Omega.{arith}
 use lib.Dec.{eqb}
 use lib.ListN.{getD, set}
-use Rattle.sheet.specs.declared.Conditional.{Conditional}
-use Rattle.sheet.specs.declared.Conditional.the-variants.{If, Dbnzne, Dbnze, Dbnz, Bcwz}
 use Rattle.sheet.specs.Width.{sub16}
-use Rattle.sheet.specs.Psw.{CY, P, Z, S, OV, flagOf}
+use Rattle.sheet.specs.Psw.{Flag, CY, Z, S, OV, flagOf}
+use Rattle.sheet.specs.Act.{pure, _>>=_, flag}
 use Rattle.sheet.specs.Registers.{CW, PSW}
-use Rattle.sheet.specs.Branch.{jump, lessOrEqual, condition, jumpIf, branchIf, countDown, dbnzWhile, dbnz, bcwz, conditional}
+use Rattle.sheet.specs.Branch.{jump, lessOrEqual, conditions, condition, jumpIf, branchIf, countDown, dbnzWhile, dbnz, bcwz}
 use Rattle.sheet.specs.Contract.{OnFile}
 use Rattle.sheet.proofs.Lifted.{file-seq, file-pure, file-registers, file-set, file-flag, file-true, file-false}
 use Rattle.do_conditional.specs.Asked.{asked}
@@ -31,40 +30,25 @@ last-left : (n : ℕ) → (n / 2 % 8 ≡ 0 → ⊥) → (n / 2 % 8 ≡ 1 → ⊥
 last-left n a b c d e g h = seven (n / 2 % 8) (below-eight n) (from-four (n / 2 % 8) a b c d) e g h
 
 module _ (f : List ℕ) (n : ℕ) where
-  pub asks-0 : (v : Bool) → n / 2 % 8 ≡ 0 → v ≡ flagOf (getD f PSW 0) OV → OnFile Bool (asked n) f v f
+  pub asks : (k : ℕ) (b : Bool) → n / 2 % 8 ≡ k → OnFile Bool (getD conditions k (pure false)) f b f → OnFile Bool (asked n) f b f
   unfolding asked
-  asks-0 v e q = rw (e, q) (file-flag OV)
+  asks k b e h = rw e h
 
-  pub asks-1 : (cy : Bool) → n / 2 % 8 ≡ 1 → cy ≡ flagOf (getD f PSW 0) CY → OnFile Bool (asked n) f cy f
-  unfolding asked
-  asks-1 cy e q = rw (e, q) (file-flag CY)
-
-  pub asks-2 : (z : Bool) → n / 2 % 8 ≡ 2 → z ≡ flagOf (getD f PSW 0) Z → OnFile Bool (asked n) f z f
-  unfolding asked
-  asks-2 z e q = rw (e, q) (file-flag Z)
+  two-flags : (p q : Flag) (g : Bool → Bool → Bool) {a b : Bool} → a ≡ flagOf (getD f PSW 0) p → b ≡ flagOf (getD f PSW 0) q
+      → OnFile Bool (flag p >>= (λ x. flag q >>= (λ y. pure (g x y)))) f (g a b) f
+  two-flags p q g e h = file-seq _ (file-flag p e) (file-seq _ (file-flag q h) file-pure)
 
   pub asks-3 : (cy z : Bool) → n / 2 % 8 ≡ 3 → cy ≡ flagOf (getD f PSW 0) CY → z ≡ flagOf (getD f PSW 0) Z → OnFile Bool (asked n) f (cy || z) f
-  unfolding asked
-  asks-3 cy z e p q = rw (e, p, q) (file-seq _ (file-flag CY) (file-seq _ (file-flag Z) file-pure))
-
-  pub asks-4 : (s : Bool) → n / 2 % 8 ≡ 4 → s ≡ flagOf (getD f PSW 0) S → OnFile Bool (asked n) f s f
-  unfolding asked
-  asks-4 s e q = rw (e, q) (file-flag S)
-
-  pub asks-5 : (p : Bool) → n / 2 % 8 ≡ 5 → p ≡ flagOf (getD f PSW 0) P → OnFile Bool (asked n) f p f
-  unfolding asked
-  asks-5 p e q = rw (e, q) (file-flag P)
+  asks-3 cy z e p q = asks 3 _ e (two-flags CY Z _||_ p q)
 
   pub asks-6 : (s v : Bool) → n / 2 % 8 ≡ 6 → s ≡ flagOf (getD f PSW 0) S → v ≡ flagOf (getD f PSW 0) OV → OnFile Bool (asked n) f (not (Bool·beq s v)) f
-  unfolding asked
-  asks-6 s v e p q = rw (e, p, q) (file-seq _ (file-flag S) (file-seq _ (file-flag OV) file-pure))
+  asks-6 s v e p q = asks 6 _ e (two-flags S OV (λ a b. not (Bool·beq a b)) p q)
 
   pub asks-7 : (s v z : Bool) → (n / 2 % 8 ≡ 0 → ⊥) → (n / 2 % 8 ≡ 1 → ⊥) → (n / 2 % 8 ≡ 2 → ⊥) → (n / 2 % 8 ≡ 3 → ⊥) → (n / 2 % 8 ≡ 4 → ⊥) → (n / 2 % 8 ≡ 5 → ⊥) → (n / 2 % 8 ≡ 6 → ⊥)
       → s ≡ flagOf (getD f PSW 0) S → v ≡ flagOf (getD f PSW 0) OV → z ≡ flagOf (getD f PSW 0) Z → OnFile Bool (asked n) f (not (Bool·beq s v) || z) f
-  unfolding asked lessOrEqual
+  unfolding lessOrEqual
   asks-7 s v z a b c d e g h p q k =
-      rw (last-left n a b c d e g h, p, q, k)
-      (file-seq _ (file-seq _ (file-flag S) (file-seq _ (file-flag OV) file-pure)) (file-seq _ (file-flag Z) file-pure))
+      asks 7 _ (last-left n a b c d e g h) (file-seq _ (two-flags S OV (λ x y. not (Bool·beq x y)) p q) (file-seq _ (file-flag Z k) file-pure))
 
   pub condition-is : (b : Bool) → OnFile Bool (asked n) f b f → OnFile Bool (condition n) f (not (Bool·beq b (eqb (n % 2) 1))) f
   unfolding condition asked
@@ -92,7 +76,7 @@ module _ (f g h : List ℕ) (disp : ℕ) where
   pub dbnz-while-is : (wanted b z : Bool) → OnFile Bool countDown f b h → z ≡ flagOf (getD h PSW 0) Z → OnFile Unit (jumpIf (b && Bool·beq z wanted) disp) h tt g
       → OnFile Unit (dbnzWhile wanted disp) f tt g
   unfolding dbnzWhile
-  dbnz-while-is wanted b z p e q = file-seq _ p (file-seq _ (file-flag Z) (rw (← e) q))
+  dbnz-while-is wanted b z p e q = file-seq _ p (file-seq _ (file-flag Z e) q)
 
   pub dbnz-is : (b : Bool) → OnFile Bool countDown f b h → OnFile Unit (jumpIf b disp) h tt g → OnFile Unit (dbnz disp) f tt g
   unfolding dbnz
@@ -101,26 +85,3 @@ module _ (f g h : List ℕ) (disp : ℕ) where
   pub bcwz-is : OnFile Unit (jumpIf (eqb (getD f CW 0) 0) disp) f tt g → OnFile Unit (bcwz disp) f tt g
   unfolding bcwz
   bcwz-is q = file-seq _ file-registers q
-
--- ---- the group
-
-module _ (i : Conditional) (f g : List ℕ) (disp : ℕ) where
-  pub at-if : (n : ℕ) → i ≡ If n disp → OnFile Unit (branchIf n disp) f tt g → OnFile Unit (conditional i) f tt g
-  unfolding conditional
-  at-if n e h = rw e h
-
-  pub at-dbnzne : i ≡ Dbnzne disp → OnFile Unit (dbnzWhile false disp) f tt g → OnFile Unit (conditional i) f tt g
-  unfolding conditional
-  at-dbnzne e h = rw e h
-
-  pub at-dbnze : i ≡ Dbnze disp → OnFile Unit (dbnzWhile true disp) f tt g → OnFile Unit (conditional i) f tt g
-  unfolding conditional
-  at-dbnze e h = rw e h
-
-  pub at-dbnz : i ≡ Dbnz disp → OnFile Unit (dbnz disp) f tt g → OnFile Unit (conditional i) f tt g
-  unfolding conditional
-  at-dbnz e h = rw e h
-
-  pub at-bcwz : i ≡ Bcwz disp → OnFile Unit (bcwz disp) f tt g → OnFile Unit (conditional i) f tt g
-  unfolding conditional
-  at-bcwz e h = rw e h

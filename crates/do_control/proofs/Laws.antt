@@ -5,9 +5,10 @@ use mathlib.Core.Bool.{Bool, true, false, not}
 use mathlib.Core.List.{List}
 use lib.ListN.{getD, set}
 use Rattle.sheet.specs.declared.Control.{Control}
-use Rattle.sheet.specs.declared.Control.the-variants.{Nop, Halt, Di, Ei, ClrCy, SetCy, NotCy, ClrDir, SetDir}
-use Rattle.sheet.specs.Psw.{CY, IE, DIR, flagOf, only, keeps, settled}
+use Rattle.sheet.specs.declared.Control.the-variants.{Nop, Halt, NotCy}
+use Rattle.sheet.specs.Psw.{Flag, CY, flagOf, only, keeps, settled}
 use Rattle.sheet.specs.Registers.{PSW}
+use Rattle.sheet.specs.Act.{setFlag}
 use Rattle.sheet.specs.Control.{control}
 use Rattle.sheet.specs.Contract.{OnFile}
 use Rattle.sheet.proofs.Rules.{ends-halted}
@@ -27,31 +28,9 @@ module _ (i : Control) (f : List ℕ) where
   unfolding control
   at-halt e = rw e (record { at = λ s ram rom tape log. ends-halted true })
 
-  module _ (x : ℕ) where
-    pub at-di : i ≡ Di → x ≡ settled keeps (only IE false) (getD f PSW 0) → Controls i f false (set f PSW x)
-    unfolding control
-    at-di e q = unmarked (rw e (file-flags (only IE false) q))
+  pub at-flag : (j : Control) (q : Flag) (b : Bool) (x : ℕ) → i ≡ j → control j ≡ setFlag q b → x ≡ settled keeps (only q b) (getD f PSW 0) → Controls i f false (set f PSW x)
+  at-flag j q b x e s z = unmarked (rw (e, s) (file-flags (only q b) z))
 
-    pub at-ei : i ≡ Ei → x ≡ settled keeps (only IE true) (getD f PSW 0) → Controls i f false (set f PSW x)
-    unfolding control
-    at-ei e q = unmarked (rw e (file-flags (only IE true) q))
-
-    pub at-clr-cy : i ≡ ClrCy → x ≡ settled keeps (only CY false) (getD f PSW 0) → Controls i f false (set f PSW x)
-    unfolding control
-    at-clr-cy e q = unmarked (rw e (file-flags (only CY false) q))
-
-    pub at-set-cy : i ≡ SetCy → x ≡ settled keeps (only CY true) (getD f PSW 0) → Controls i f false (set f PSW x)
-    unfolding control
-    at-set-cy e q = unmarked (rw e (file-flags (only CY true) q))
-
-    pub at-not-cy : (c : Bool) → i ≡ NotCy → c ≡ flagOf (getD f PSW 0) CY → x ≡ settled keeps (only CY (not c)) (getD f PSW 0) → Controls i f false (set f PSW x)
-    unfolding control
-    at-not-cy c e h q = unmarked (rw e (file-seq _ (file-flag CY) (rw (← h) (file-flags (only CY (not c)) q))))
-
-    pub at-clr-dir : i ≡ ClrDir → x ≡ settled keeps (only DIR false) (getD f PSW 0) → Controls i f false (set f PSW x)
-    unfolding control
-    at-clr-dir e q = unmarked (rw e (file-flags (only DIR false) q))
-
-    pub at-set-dir : i ≡ SetDir → x ≡ settled keeps (only DIR true) (getD f PSW 0) → Controls i f false (set f PSW x)
-    unfolding control
-    at-set-dir e q = unmarked (rw e (file-flags (only DIR true) q))
+  pub at-not-cy : (x : ℕ) (c : Bool) → i ≡ NotCy → c ≡ flagOf (getD f PSW 0) CY → x ≡ settled keeps (only CY (not c)) (getD f PSW 0) → Controls i f false (set f PSW x)
+  unfolding control
+  at-not-cy x c e h q = unmarked (rw e (file-seq _ (file-flag CY h) (file-flags (only CY (not c)) q)))

@@ -13,25 +13,24 @@ use Rattle.sheet.specs.declared.Digits.{Digits}
 use Rattle.sheet.specs.declared.Place.{Place}
 use Rattle.sheet.specs.declared.Spot.{Spot}
 use Rattle.sheet.specs.declared.State.{State}
-use Rattle.sheet.specs.declared.Decimal.{Decimal}
-use Rattle.sheet.specs.declared.Decimal.the-variants.{Add4s, Sub4s, Cmp4s, Rol4, Ror4}
 use Rattle.flags.specs.declared.Flags.{Flags}
 use Rattle.flags.specs.Flags.{unpacked}
 use Rattle.sheet.specs.Width.{add16}
 use Rattle.sheet.specs.Psw.{unknown, becomes, columns, column, keeps, settled}
-use Rattle.sheet.specs.Registers.{CW, IX, IY, DS1, PSW, AL, fileOf, segment, readReg}
+use Rattle.sheet.specs.Registers.{CW, IX, IY, DS1, PSW, AL, CL, fileOf, segment, readReg}
 use Rattle.sheet.specs.Memory.{busCycles}
 use Rattle.sheet.specs.World.{world, withFile}
 use Rattle.sheet.specs.Act.{peek, poke}
 use Rattle.sheet.specs.Handler.{_⊕_, busOf}
-use Rattle.sheet.specs.Operand.{locate, fetch, deposit, regValue, setReg}
+use Rattle.sheet.specs.Operand.{locate, fetch, deposit, setReg}
 use Rattle.sheet.specs.Decimal.{digits, link, rol4, ror4, string}
-use Rattle.sheet.specs.Execute.{decimal}
 use Rattle.sheet.specs.Contract.{OnFile, OnMemory}
 use Rattle.sheet.proofs.Rules.{⊕-assoc}
 use Rattle.sheet.proofs.Lifted.{file-seq, file-pure, file-registers, file-flags, memory-seq, memory-free, memory-last, memory-at-most, memory-true, file-false}
 use Rattle.sheet.proofs.Loop.{Goes, goes-none, goes-more, goes-end}
 use Rattle.memory.specs.Accesses.{Loads, Stores}
+use Rattle.registers.proofs.Laws.{file-reg}
+use Rattle.decimal.proofs.RotateLaws.{set-wraps}
 use Rattle.do_decimal.specs.Both.{Both}
 use Rattle.do_decimal.specs.Chained.{begun, chained}
 
@@ -116,58 +115,25 @@ pub string-psw-is : (x psw : ℕ) (c : Chain) (f : Flags) → f ≡ unpacked psw
 unfolding settled
 string-psw-is x psw c f e q = q ∙ rw e
 
-pub few-bytes : (x : ℕ) → (x % 256 + 1) / 2 ≤ 128
-few-bytes x = omega arith
-
 pub string-is : (f ram ram′ rom : List ℕ) (sub stores : Bool) (seg : ℕ) (c : Chain) (n : Bus) (x : ℕ) → OnMemory Chain (chained sub stores seg ((getD f CW 0 % 256 + 1) / 2)) f ram rom c f ram′ n 384
     → x ≡ settled keeps (column (columns unknown (becomes (c .cy)) unknown unknown unknown (becomes (c .zero)))) (getD f PSW 0) → OnMemory Unit (string sub stores seg) f ram rom tt (set f PSW x) ram′ n 384
-unfolding string regValue readReg chained
+unfolding string readReg chained
 string-is f ram ram′ rom sub stores seg c n x h e =
-    memory-free _ (file-seq _ file-registers file-pure)
+    memory-free _ (file-reg false CL refl)
     (memory-last _ h (file-flags (column (columns unknown (becomes (c .cy)) unknown unknown unknown (becomes (c .zero)))) e))
 
 -- ---- digits that go round
 
--- AL is a byte, so that no digit is lost
-no-wrap : (f : List ℕ) (al x : ℕ) → al ≡ readReg false (fileOf f) AL → x < 65536 → add16 (al / 16 * 16) (x / 16) ≡ al / 16 * 16 + x / 16
-unfolding readReg
-no-wrap f al x e l = omega arith
-
 module _ (f g h ram ram′ rom : List ℕ) (to : Place) (s : Spot) (al x y z : ℕ) (n m : Bus) where
   pub rol4-is : al ≡ readReg false (fileOf f) AL → OnFile Spot (locate to) f s f → OnMemory ℕ (fetch false s) f ram rom x f ram n 2 → y ≡ x % 16 * 16 + al % 16
-      → OnMemory Unit (deposit false s y) f ram rom tt g ram′ m 2 → x < 65536 → z ≡ add16 (al / 16 * 16) (x / 16) → OnFile Unit (setReg false AL z) g tt h
+      → OnMemory Unit (deposit false s y) f ram rom tt g ram′ m 2 → z ≡ add16 (al / 16 * 16) (x / 16) → OnFile Unit (setReg false AL z) g tt h
       → OnMemory Unit (rol4 to) f ram rom tt h ram′ (n ⊕ m) 4
-  unfolding rol4 regValue
-  rol4-is e l p q k b i j =
-      let o = i ∙ no-wrap f al x e b in
-      memory-free _ (file-seq _ file-registers file-pure) (rw (← e) (memory-free _ l (memory-seq _ {t = 2} {u = 2} p (rw (← q, ← o) (memory-last _ k j)))))
+  unfolding rol4
+  rol4-is e l p q k i j =
+      memory-free _ (file-reg false AL e) (memory-free _ l (memory-seq _ {t = 2} {u = 2} p (rw (← q, ← set-wraps AL (al / 16 * 16) (x / 16), ← i) (memory-last _ k j))))
 
   pub ror4-is : al ≡ readReg false (fileOf f) AL → OnFile Spot (locate to) f s f → OnMemory ℕ (fetch false s) f ram rom x f ram n 2 → y ≡ al % 16 * 16 + x / 16
       → OnMemory Unit (deposit false s y) f ram rom tt g ram′ m 2 → z ≡ al / 16 * 16 + x % 16 → OnFile Unit (setReg false AL z) g tt h
       → OnMemory Unit (ror4 to) f ram rom tt h ram′ (n ⊕ m) 4
-  unfolding ror4 regValue
-  ror4-is e l p q k i j =
-      memory-free _ (file-seq _ file-registers file-pure) (rw (← e) (memory-free _ l (memory-seq _ {t = 2} {u = 2} p (rw (← q, ← i) (memory-last _ k j)))))
-
--- ---- the group
-
-module _ (i : Decimal) (f g ram ram′ rom : List ℕ) (n : Bus) where
-  pub at-add4s : (seg : ℕ) → i ≡ Add4s seg → OnMemory Unit (string false true seg) f ram rom tt g ram′ n 384 → OnMemory Unit (decimal i) f ram rom tt g ram′ n 384
-  unfolding decimal
-  at-add4s seg e h = rw e h
-
-  pub at-sub4s : (seg : ℕ) → i ≡ Sub4s seg → OnMemory Unit (string true true seg) f ram rom tt g ram′ n 384 → OnMemory Unit (decimal i) f ram rom tt g ram′ n 384
-  unfolding decimal
-  at-sub4s seg e h = rw e h
-
-  pub at-cmp4s : (seg : ℕ) → i ≡ Cmp4s seg → OnMemory Unit (string true false seg) f ram rom tt g ram′ n 384 → OnMemory Unit (decimal i) f ram rom tt g ram′ n 384
-  unfolding decimal
-  at-cmp4s seg e h = rw e h
-
-  pub at-rol4 : (to : Place) → i ≡ Rol4 to → OnMemory Unit (rol4 to) f ram rom tt g ram′ n 4 → OnMemory Unit (decimal i) f ram rom tt g ram′ n 384
-  unfolding decimal
-  at-rol4 to e h = rw e (memory-at-most {t = 4} 384 (lit≤ tt) h)
-
-  pub at-ror4 : (to : Place) → i ≡ Ror4 to → OnMemory Unit (ror4 to) f ram rom tt g ram′ n 4 → OnMemory Unit (decimal i) f ram rom tt g ram′ n 384
-  unfolding decimal
-  at-ror4 to e h = rw e (memory-at-most {t = 4} 384 (lit≤ tt) h)
+  unfolding ror4
+  ror4-is e l p q k i j = memory-free _ (file-reg false AL e) (memory-free _ l (memory-seq _ {t = 2} {u = 2} p (rw (← q, ← i) (memory-last _ k j))))

@@ -9,24 +9,22 @@ use lib.ListN.{getD, set}
 use Rattle.sheet.specs.declared.Bus.{Bus}
 use Rattle.sheet.specs.declared.Length.{Length}
 use Rattle.sheet.specs.declared.Length.the-variants.{InRegister, Given}
-use Rattle.sheet.specs.declared.Field.{Field}
-use Rattle.sheet.specs.declared.Field.the-variants.{Ins, Ext}
 use Rattle.sheet.specs.Width.{pick, add16}
 use Rattle.sheet.specs.Registers.{AW, IX, IY, DS1, fileOf, segment, readReg}
 use Rattle.sheet.specs.Act.{_≔_}
-use Rattle.sheet.specs.Operand.{regValue, setReg}
+use Rattle.sheet.specs.Operand.{setReg}
 use Rattle.sheet.specs.Handler.{nothing, _⊕_}
 use Rattle.sheet.specs.Fields.{replaced, fieldOf, lengthOf, advance, insertInto, ins, window, ext}
-use Rattle.sheet.specs.Execute.{field}
 use Rattle.sheet.specs.Contract.{OnFile, OnMemory}
 use Rattle.sheet.proofs.Lifted.{file-seq, file-pure, file-registers, file-set, memory-seq, memory-free, memory-last, memory-at-most, memory-true, memory-false, on-memory}
 use Rattle.memory.specs.Accesses.{Loads, Stores}
+use Rattle.registers.proofs.Laws.{file-reg}
 use Rattle.do_field.specs.Parts.{firstPart, secondPart}
 
 module _ (f : List ℕ) (l : Length) where
   pub code-in-register : (n v : ℕ) → l ≡ InRegister n → v ≡ readReg false (fileOf f) n → OnFile ℕ (lengthOf l) f (v % 16 + 1) f
-  unfolding lengthOf regValue
-  code-in-register n v e q = rw (e, q) (file-seq _ (file-seq _ file-registers file-pure) file-pure)
+  unfolding lengthOf
+  code-in-register n v e q = rw e (file-seq _ (file-reg false n q) file-pure)
 
   pub code-given : (n : ℕ) → l ≡ Given n → OnFile ℕ (lengthOf l) f (n % 16 + 1) f
   unfolding lengthOf
@@ -67,9 +65,9 @@ no-second f ram rom o code sum s t = memory-false _ _ (rw s at (le-ltb 16 sum t)
 pub ins-is : (f g ram ram₁ ram₂ rom : List ℕ) (offset o code sum : ℕ) (l : Length) (n m : Bus) → o ≡ readReg false (fileOf f) offset → OnFile ℕ (lengthOf l) f (code % 16 + 1) f
     → OnMemory Unit (firstPart (fileOf f) (o % 16) (code % 16 + 1)) f ram rom tt f ram₁ n 4 → OnMemory Unit (secondPart (fileOf f) (o % 16) (code % 16 + 1)) f ram₁ rom tt f ram₂ m 4
     → sum ≡ o % 16 + (code % 16 + 1) → OnFile Unit (advance offset IY sum) f tt g → OnMemory Unit (ins offset l) f ram rom tt g ram₂ (n ⊕ m) 8
-unfolding ins regValue firstPart secondPart
+unfolding ins firstPart secondPart
 ins-is f g ram ram₁ ram₂ rom offset o code sum l n m e h p q s k =
-    memory-free _ (file-seq _ file-registers file-pure) (rw (← e) (memory-free _ h (memory-free _ file-registers (memory-seq _ {t = 4} {u = 4} p (memory-last _ q (rw s at k))))))
+    memory-free _ (file-reg false offset e) (memory-free _ h (memory-free _ file-registers (memory-seq _ {t = 4} {u = 4} p (memory-last _ q (rw s at k)))))
 
 module _ (f ram rom : List ℕ) (base offset : ℕ) (both : Bool) (x : ℕ) (n : Bus) where
   pub window-two : (next y : ℕ) (m : Bus) → both ≡ true → Loads true ram rom base offset x n → next ≡ add16 offset 2 → Loads true ram rom base next y m
@@ -84,19 +82,7 @@ module _ (f ram rom : List ℕ) (base offset : ℕ) (both : Bool) (x : ℕ) (n :
 pub ext-is : (f g ram rom : List ℕ) (seg offset o code sum base at x y : ℕ) (l : Length) (n : Bus) → o ≡ readReg false (fileOf f) offset → OnFile ℕ (lengthOf l) f (code % 16 + 1) f
     → sum ≡ o % 16 + (code % 16 + 1) → base ≡ fileOf f (segment seg) → at ≡ getD f IX 0 → OnMemory ℕ (window base at (ltb 16 sum)) f ram rom x f ram n 4
     → y ≡ fieldOf x (o % 16) (code % 16 + 1) → OnFile Unit (advance offset IX sum) (set f AW y) tt g → OnMemory Unit (ext seg offset l) f ram rom tt g ram n 8
-unfolding ext regValue
+unfolding ext
 ext-is f g ram rom seg offset o code sum base at x y l n e h s b i w z k =
     memory-at-most {t = 4} 8 (lit≤ tt)
-    (memory-free _ (file-seq _ file-registers file-pure)
-    (rw (← e) (memory-free _ h (memory-free _ file-registers (rw (← s, ← b, ← i) (memory-last _ w (rw (← z) (file-seq _ (file-set AW y) k))))))))
-
--- ---- the group
-
-module _ (i : Field) (f g ram ram′ rom : List ℕ) (n : Bus) where
-  pub at-ins : (offset : ℕ) (l : Length) → i ≡ Ins offset l → OnMemory Unit (ins offset l) f ram rom tt g ram′ n 8 → OnMemory Unit (field i) f ram rom tt g ram′ n 8
-  unfolding field
-  at-ins offset l e h = rw e h
-
-  pub at-ext : (seg offset : ℕ) (l : Length) → i ≡ Ext seg offset l → OnMemory Unit (ext seg offset l) f ram rom tt g ram′ n 8 → OnMemory Unit (field i) f ram rom tt g ram′ n 8
-  unfolding field
-  at-ext seg offset l e h = rw e h
+    (memory-free _ (file-reg false offset e) (memory-free _ h (memory-free _ file-registers (rw (← s, ← b, ← i) (memory-last _ w (rw (← z) (file-seq _ (file-set AW y) k)))))))

@@ -5,7 +5,7 @@ use mathlib.Core.Bool.{Bool, true, false}
 use mathlib.Core.List.{List}
 use native.Mathlib.Omega.{arith}
 use borrow.Author.Tests.{ltb-true, ltb-false, lt-ltb, le-ltb}
-use lib.Dec.{ltb, lit≤}
+use lib.Dec.{ltb}
 use lib.IntN.{negsuc}
 use lib.ListN.{getD, set}
 use lib.Signed.{ltZ}
@@ -13,18 +13,17 @@ use mir.Syntax.{w16}
 use mir.Val.{Fits}
 use Rattle.sheet.specs.declared.Bus.{Bus}
 use Rattle.sheet.specs.declared.Address.{Address}
-use Rattle.sheet.specs.declared.Interrupt.{Interrupt}
-use Rattle.sheet.specs.declared.Interrupt.the-variants.{Brk3, Brk, Brkv, Reti, Chkind}
 use Rattle.sheet.specs.Width.{add16, signedOf}
 use Rattle.sheet.specs.Psw.{OV, flagOf, pack, restored, settled}
 use Rattle.sheet.specs.Registers.{PS, PC, PSW, fileOf, readReg}
 use Rattle.sheet.specs.Handler.{nothing, _⊕_}
-use Rattle.sheet.specs.Operand.{regValue, pairAt}
+use Rattle.sheet.specs.Operand.{pairAt}
 use Rattle.sheet.specs.Traps.{pop, trap}
-use Rattle.sheet.specs.Interrupts.{brk, trapIf, brkv, reti, outside, chkind, interrupts}
+use Rattle.sheet.specs.Interrupts.{brk, trapIf, brkv, reti, outside, chkind}
 use Rattle.sheet.specs.Execute.{untrapped}
 use Rattle.sheet.specs.Contract.{OnMemory}
-use Rattle.sheet.proofs.Lifted.{file-seq, file-pure, file-registers, file-set, file-flag, file-flags, memory-seq, memory-free, memory-last, memory-at-most, memory-true, memory-false, on-memory}
+use Rattle.sheet.proofs.Lifted.{file-seq, file-pure, file-set, file-flag, file-flags, memory-seq, memory-free, memory-last, memory-true, memory-false, on-memory}
+use Rattle.registers.proofs.Laws.{file-reg}
 use Rattle.signed.proofs.ReadBack.{read-pos, read-negsuc}
 
 -- ---- signed numbers in their order
@@ -78,7 +77,7 @@ module _ (f g ram ram′ rom : List ℕ) where
 
   pub brkv-is : (b t : Bool) (n : Bus) → b ≡ flagOf (getD f PSW 0) OV → OnMemory Bool (trapIf b 4) f ram rom t g ram′ n 8 → OnMemory Bool brkv f ram rom t g ram′ n 8
   unfolding brkv
-  brkv-is b t n e h = memory-free _ (file-flag OV) (rw (← e) h)
+  brkv-is b t n e h = memory-free _ (file-flag OV e) h
 
   pub reti-is : (pc ps x y : ℕ) (g₁ g₂ : List ℕ) (n m k : Bus) → OnMemory ℕ pop f ram rom pc g₁ ram n 2 → OnMemory ℕ pop g₁ ram rom ps g₂ ram m 2 → OnMemory ℕ pop g₂ ram rom x g ram k 2
       → y ≡ pack (flagOf x) → OnMemory Bool (untrapped reti) f ram rom false (set (set (set g PC pc) PS ps) PSW y) ram (n ⊕ (m ⊕ k)) 6
@@ -91,28 +90,5 @@ module _ (f g ram ram′ rom : List ℕ) where
 
   pub chkind-is : (reg : ℕ) (from : Address) (x y v : ℕ) (b t : Bool) (n m : Bus) → OnMemory (ℕ × ℕ) (pairAt from) f ram rom ((x, y)) f ram n 4 → v ≡ readReg true (fileOf f) reg
       → b ≡ outside v x y → OnMemory Bool (trapIf b 5) f ram rom t g ram′ m 8 → OnMemory Bool (chkind reg from) f ram rom t g ram′ (n ⊕ m) 12
-  unfolding chkind regValue
-  chkind-is reg from x y v b t n m p e q k = memory-seq _ {t = 4} {u = 8} p (memory-free _ (file-seq _ file-registers file-pure) (rw (← e, ← q) k))
-
--- ---- the group
-
-module _ (i : Interrupt) (f g ram ram′ rom : List ℕ) (t : Bool) (n : Bus) where
-  pub at-brk3 : i ≡ Brk3 → OnMemory Bool (brk 3) f ram rom t g ram′ n 8 → OnMemory Bool (interrupts i) f ram rom t g ram′ n 12
-  unfolding interrupts
-  at-brk3 e h = rw e (memory-at-most {t = 8} 12 (lit≤ tt) h)
-
-  pub at-brk : (v : ℕ) → i ≡ Brk v → OnMemory Bool (brk v) f ram rom t g ram′ n 8 → OnMemory Bool (interrupts i) f ram rom t g ram′ n 12
-  unfolding interrupts
-  at-brk v e h = rw e (memory-at-most {t = 8} 12 (lit≤ tt) h)
-
-  pub at-brkv : i ≡ Brkv → OnMemory Bool brkv f ram rom t g ram′ n 8 → OnMemory Bool (interrupts i) f ram rom t g ram′ n 12
-  unfolding interrupts
-  at-brkv e h = rw e (memory-at-most {t = 8} 12 (lit≤ tt) h)
-
-  pub at-reti : i ≡ Reti → OnMemory Bool (untrapped reti) f ram rom t g ram′ n 6 → OnMemory Bool (interrupts i) f ram rom t g ram′ n 12
-  unfolding interrupts untrapped
-  at-reti e h = rw e (memory-at-most {t = 6} 12 (lit≤ tt) h)
-
-  pub at-chkind : (reg : ℕ) (a : Address) → i ≡ Chkind reg a → OnMemory Bool (chkind reg a) f ram rom t g ram′ n 12 → OnMemory Bool (interrupts i) f ram rom t g ram′ n 12
-  unfolding interrupts
-  at-chkind reg a e h = rw e h
+  unfolding chkind
+  chkind-is reg from x y v b t n m p e q k = memory-seq _ {t = 4} {u = 8} p (memory-free _ (file-reg true reg e) (rw (← q) k))

@@ -10,18 +10,17 @@ use Rattle.sheet.specs.declared.Address.{Address}
 use Rattle.sheet.specs.declared.Place.{Place}
 use Rattle.sheet.specs.declared.Source.{Source}
 use Rattle.sheet.specs.declared.Spot.{Spot}
-use Rattle.sheet.specs.declared.Transfer.{Transfer}
-use Rattle.sheet.specs.declared.Transfer.the-variants.{Mov, LoadAcc, StoreAcc, ToSegment, FromSegment, LoadPointer, AhFromPsw, PswFromAh, Ldea, Trans, Xch}
 use Rattle.sheet.specs.Width.{wrapOf, add16}
 use Rattle.sheet.specs.Psw.{keeps, column, settled}
 use Rattle.sheet.specs.Registers.{AW, BW, AH, PSW, fileOf, segment, readReg}
 use Rattle.sheet.specs.Act.{_≔_}
 use Rattle.sheet.specs.Handler.{nothing, _⊕_}
-use Rattle.sheet.specs.Operand.{baseOf, offsetOf, locate, fetch, deposit, valueAt, sourceValue, regValue, setReg, pairAt}
-use Rattle.sheet.specs.Transfer.{mov, loadAcc, storeAcc, toSegment, fromSegment, loadPointer, ahFromPsw, flagsOfByte, pswFromAh, ldea, trans, xch, transfer}
+use Rattle.sheet.specs.Operand.{baseOf, offsetOf, locate, fetch, deposit, valueAt, sourceValue, setReg, pairAt}
+use Rattle.sheet.specs.Transfer.{mov, loadAcc, storeAcc, toSegment, fromSegment, loadPointer, ahFromPsw, flagsOfByte, pswFromAh, ldea, trans, xch}
 use Rattle.sheet.specs.Contract.{OnFile, OnMemory}
-use Rattle.sheet.proofs.Lifted.{file-seq, file-pure, file-registers, file-psw, file-flags, memory-seq, memory-free, memory-last, memory-at-most, on-memory}
+use Rattle.sheet.proofs.Lifted.{file-seq, file-registers, file-psw, file-flags, memory-seq, memory-free, memory-last, memory-at-most, on-memory}
 use Rattle.memory.specs.Accesses.{Loads, Stores}
+use Rattle.registers.proofs.Laws.{file-reg}
 
 module _ (f g ram ram′ rom : List ℕ) where
   pub mov-is : (w : Bool) (to : Place) (from : Source) (s : Spot) (v : ℕ) (n m : Bus) → OnMemory ℕ (sourceValue w from) f ram rom v f ram n 2 → OnFile Spot (locate to) f s f
@@ -36,9 +35,8 @@ module _ (f g ram ram′ rom : List ℕ) where
 
   pub store-acc-is : (w : Bool) (to : Address) (b o v : ℕ) (n : Bus) → v ≡ readReg w (fileOf f) AW → b ≡ baseOf (fileOf f) to → o ≡ offsetOf (fileOf f) to → Stores w ram b o v ram′ n
       → OnMemory Unit (storeAcc w to) f ram rom tt f ram′ n 4
-  unfolding storeAcc regValue
-  store-acc-is w to b o v n z e q h =
-      memory-at-most {t = 2} 4 (lit≤ tt) (memory-free _ (file-seq _ file-registers file-pure) (memory-free _ file-registers (rw (← e, ← q, ← z) (h .at f rom))))
+  unfolding storeAcc
+  store-acc-is w to b o v n z e q h = memory-at-most {t = 2} 4 (lit≤ tt) (memory-free _ (file-reg w AW z) (memory-free _ file-registers (rw (← e, ← q) (h .at f rom))))
 
   pub to-segment-is : (seg : ℕ) (from : Place) (v : ℕ) (n : Bus) → OnMemory ℕ (valueAt true from) f ram rom v f ram n 2 → OnFile Unit (segment seg ≔ v) f tt g
       → OnMemory Unit (toSegment seg from) f ram rom tt g ram n 4
@@ -60,8 +58,8 @@ module _ (f g ram ram′ rom : List ℕ) where
   ah-from-psw-is h = on-memory ram rom 4 (file-seq _ (file-psw false) h)
 
   pub psw-from-ah-is : (x y : ℕ) → x ≡ readReg false (fileOf f) AH → y ≡ settled keeps (column (flagsOfByte x)) (getD f PSW 0) → OnMemory Unit pswFromAh f ram rom tt (set f PSW y) ram nothing 4
-  unfolding pswFromAh regValue
-  psw-from-ah-is x y e q = on-memory ram rom 4 (file-seq _ (file-seq _ file-registers file-pure) (rw (← e) (file-flags (column (flagsOfByte x)) q)))
+  unfolding pswFromAh
+  psw-from-ah-is x y e q = on-memory ram rom 4 (file-seq _ (file-reg false AH e) (file-flags (column (flagsOfByte x)) q))
 
   pub ldea-is : (reg : ℕ) (from : Address) (o : ℕ) → o ≡ offsetOf (fileOf f) from → OnFile Unit (setReg true reg o) f tt g → OnMemory Unit (ldea reg from) f ram rom tt g ram nothing 4
   unfolding ldea
@@ -74,53 +72,5 @@ module _ (f g ram ram′ rom : List ℕ) where
 
   pub xch-is : (w : Bool) (reg : ℕ) (with : Place) (s : Spot) (x y : ℕ) (h : List ℕ) (n m : Bus) → OnFile Spot (locate with) f s f → OnMemory ℕ (fetch w s) f ram rom x f ram n 2
       → y ≡ readReg w (fileOf f) reg → OnMemory Unit (deposit w s y) f ram rom tt h ram′ m 2 → OnFile Unit (setReg w reg x) h tt g → OnMemory Unit (xch w reg with) f ram rom tt g ram′ (n ⊕ m) 4
-  unfolding xch regValue
-  xch-is w reg with s x y h n m p q e k z =
-      memory-free _ p (memory-seq _ {t = 2} {u = 2} q (memory-free _ (file-seq _ file-registers file-pure) (rw (← e) (memory-last _ k z))))
-
--- ---- the group
-
-module _ (i : Transfer) (f g ram ram′ rom : List ℕ) (n : Bus) where
-  pub at-mov : (w : Bool) (to : Place) (from : Source) → i ≡ Mov w to from → OnMemory Unit (mov w to from) f ram rom tt g ram′ n 4 → OnMemory Unit (transfer i) f ram rom tt g ram′ n 4
-  unfolding transfer
-  at-mov w to from e h = rw e h
-
-  pub at-load-acc : (w : Bool) (a : Address) → i ≡ LoadAcc w a → OnMemory Unit (loadAcc w a) f ram rom tt g ram′ n 4 → OnMemory Unit (transfer i) f ram rom tt g ram′ n 4
-  unfolding transfer
-  at-load-acc w a e h = rw e h
-
-  pub at-store-acc : (w : Bool) (a : Address) → i ≡ StoreAcc w a → OnMemory Unit (storeAcc w a) f ram rom tt g ram′ n 4 → OnMemory Unit (transfer i) f ram rom tt g ram′ n 4
-  unfolding transfer
-  at-store-acc w a e h = rw e h
-
-  pub at-to-segment : (seg : ℕ) (p : Place) → i ≡ ToSegment seg p → OnMemory Unit (toSegment seg p) f ram rom tt g ram′ n 4 → OnMemory Unit (transfer i) f ram rom tt g ram′ n 4
-  unfolding transfer
-  at-to-segment seg p e h = rw e h
-
-  pub at-from-segment : (seg : ℕ) (p : Place) → i ≡ FromSegment p seg → OnMemory Unit (fromSegment p seg) f ram rom tt g ram′ n 4 → OnMemory Unit (transfer i) f ram rom tt g ram′ n 4
-  unfolding transfer
-  at-from-segment seg p e h = rw e h
-
-  pub at-load-pointer : (seg reg : ℕ) (a : Address) → i ≡ LoadPointer seg reg a → OnMemory Unit (loadPointer seg reg a) f ram rom tt g ram′ n 4 → OnMemory Unit (transfer i) f ram rom tt g ram′ n 4
-  unfolding transfer
-  at-load-pointer seg reg a e h = rw e h
-
-  pub at-ah-from-psw : i ≡ AhFromPsw → OnMemory Unit ahFromPsw f ram rom tt g ram′ n 4 → OnMemory Unit (transfer i) f ram rom tt g ram′ n 4
-  unfolding transfer
-  at-ah-from-psw e h = rw e h
-
-  pub at-psw-from-ah : i ≡ PswFromAh → OnMemory Unit pswFromAh f ram rom tt g ram′ n 4 → OnMemory Unit (transfer i) f ram rom tt g ram′ n 4
-  unfolding transfer
-  at-psw-from-ah e h = rw e h
-
-  pub at-ldea : (reg : ℕ) (a : Address) → i ≡ Ldea reg a → OnMemory Unit (ldea reg a) f ram rom tt g ram′ n 4 → OnMemory Unit (transfer i) f ram rom tt g ram′ n 4
-  unfolding transfer
-  at-ldea reg a e h = rw e h
-
-  pub at-trans : (seg : ℕ) → i ≡ Trans seg → OnMemory Unit (trans seg) f ram rom tt g ram′ n 4 → OnMemory Unit (transfer i) f ram rom tt g ram′ n 4
-  unfolding transfer
-  at-trans seg e h = rw e h
-
-  pub at-xch : (w : Bool) (reg : ℕ) (p : Place) → i ≡ Xch w reg p → OnMemory Unit (xch w reg p) f ram rom tt g ram′ n 4 → OnMemory Unit (transfer i) f ram rom tt g ram′ n 4
-  unfolding transfer
-  at-xch w reg p e h = rw e h
+  unfolding xch
+  xch-is w reg with s x y h n m p q e k z = memory-free _ p (memory-seq _ {t = 2} {u = 2} q (memory-free _ (file-reg w reg e) (memory-last _ k z)))

@@ -16,17 +16,18 @@ use Rattle.sheet.specs.declared.Product.{Product}
 use Rattle.sheet.specs.declared.Divided.{Divided}
 use Rattle.sheet.specs.declared.Divided.the-variants.{Quotient, Trap}
 use Rattle.sheet.specs.declared.Multiply.{Multiply}
-use Rattle.sheet.specs.declared.Multiply.the-variants.{Mulu, Mul, MulByte, MulWord, Divu, Div}
 use Rattle.sheet.specs.Width.{halfOf, wrapOf, signedOf, bits32}
 use Rattle.sheet.specs.Psw.{flagOf, pack, keeps, column, settled}
 use Rattle.sheet.specs.Registers.{AW, DW, PSW, fileOf, readReg}
+use Rattle.sheet.specs.Act.{Act, _>>=_, registers}
 use Rattle.sheet.specs.Operand.{regValue, setReg, valueAt}
 use Rattle.sheet.specs.Handler.{nothing, _⊕_}
 use Rattle.sheet.specs.Traps.{trap}
-use Rattle.sheet.specs.Multiply.{allUnknown, bitsOf, div, divided, dividend, divu, mul, mulBy, multiplied, mulu, productColumn, quoted, setProduct, setQuotient, signedProduct, signedQuotient, spanOf, stands, unsignedProduct, unsignedQuotient}
+use Rattle.sheet.specs.Multiply.{allUnknown, bitsOf, divided, dividend, mulBy, multiplied, productColumn, quoted, setProduct, setQuotient, signedProduct, signedQuotient, spanOf, stands, unsignedQuotient}
 use Rattle.sheet.specs.Execute.{multiply, untrapped}
 use Rattle.sheet.specs.Contract.{OnFile, OnMemory}
 use Rattle.sheet.proofs.Lifted.{file-seq, file-pure, file-registers, file-set, file-flags, memory-seq, memory-free, memory-last, memory-at-most, on-memory}
+use Rattle.registers.proofs.Laws.{file-reg}
 use Rattle.word.proofs.WidthLaws.{wrap-lt}
 use Rattle.divide.proofs.QuotientLaws.{unsigned-quotient-exact}
 use Rattle.do_multiply.specs.Within.{Held, Within}
@@ -47,22 +48,16 @@ pub multiplied-is : (f g : List ℕ) (w : Bool) (p : Product) (x : ℕ) → x �
 unfolding multiplied
 multiplied-is f g w p x e h = file-seq _ (file-flags (column (productColumn p)) e) h
 
-module _ (f g ram rom : List ℕ) (n : Bus) where
-  pub mulu-is : (w : Bool) (by : Place) (b a : ℕ) (p : Product) → OnMemory ℕ (valueAt w by) f ram rom b f ram n 2 → a ≡ readReg w (fileOf f) AW → p ≡ unsignedProduct w a b
-      → OnFile Unit (multiplied w p) f tt g → OnMemory Unit (mulu w by) f ram rom tt g ram n 2
-  unfolding mulu regValue
-  mulu-is w by b a p h e q k = memory-last _ h (file-seq _ (file-seq _ file-registers file-pure) (rw (← e, ← q) k))
+pub product-is : (product : Bool → ℕ → ℕ → Product) (f g ram rom : List ℕ) (n : Bus) (w : Bool) (by : Place) (b a : ℕ) (p : Product) → OnMemory ℕ (valueAt w by) f ram rom b f ram n 2
+    → a ≡ readReg w (fileOf f) AW → p ≡ product w a b → OnFile Unit (multiplied w p) f tt g
+    → OnMemory Unit (valueAt w by >>= (λ y. regValue w AW >>= (λ x. multiplied w (product w x y)))) f ram rom tt g ram n 2
+product-is product f g ram rom n w by b a p h e q k = memory-last _ h (file-seq _ (file-reg w AW e) (rw (← q) k))
 
-  pub mul-is : (w : Bool) (by : Place) (b a : ℕ) (p : Product) → OnMemory ℕ (valueAt w by) f ram rom b f ram n 2 → a ≡ readReg w (fileOf f) AW → p ≡ signedProduct w a b
-      → OnFile Unit (multiplied w p) f tt g → OnMemory Unit (mul w by) f ram rom tt g ram n 2
-  unfolding mul regValue
-  mul-is w by b a p h e q k = memory-last _ h (file-seq _ (file-seq _ file-registers file-pure) (rw (← e, ← q) k))
-
-  pub mul-by-is : (reg : ℕ) (from : Place) (by a : ℕ) (p : Product) (x : ℕ) → OnMemory ℕ (valueAt true from) f ram rom a f ram n 2 → p ≡ signedProduct true a by
-      → x ≡ settled keeps (column (productColumn p)) (getD f PSW 0) → OnFile Unit (setReg true reg (p .bits % 65536)) (set f PSW x) tt g
-      → OnMemory Unit (mulBy reg from by) f ram rom tt g ram n 2
-  unfolding mulBy
-  mul-by-is reg from by a p x h q e k = memory-last _ h (rw (← q) (file-seq _ (file-flags (column (productColumn p)) e) k))
+pub mul-by-is : (f g ram rom : List ℕ) (n : Bus) (reg : ℕ) (from : Place) (by a : ℕ) (p : Product) (x : ℕ) → OnMemory ℕ (valueAt true from) f ram rom a f ram n 2 → p ≡ signedProduct true a by
+    → x ≡ settled keeps (column (productColumn p)) (getD f PSW 0) → OnFile Unit (setReg true reg (p .bits % 65536)) (set f PSW x) tt g
+    → OnMemory Unit (mulBy reg from by) f ram rom tt g ram n 2
+unfolding mulBy
+mul-by-is f g ram rom n reg from by a p x h q e k = memory-last _ h (rw (← q) (file-seq _ (file-flags (column (productColumn p)) e) k))
 
 -- ---- quotients
 
@@ -100,6 +95,11 @@ module _ (w : Bool) (q m : ℕ) (e : w ≡ false) (h : Held w q m) where
 pub both-held : (w : Bool) (d : Divided) (q m : ℕ) → Within w d → d ≡ Quotient q m → Held w q m
 both-held w d q m h e = h .both q m e
 
+no-quotient : (q m : ℕ) → Trap ≡ Quotient q m → ⊥
+no-quotient q m e =
+    let no : _≡_ {A = ℕ} 0 1 = cc in
+    omega arith
+
 quoted-held : (w : Bool) (n d : ℤ) (q m : ℕ) → quoted w n d ≡ Quotient q m → Held w q m
 unfolding quoted bitsOf
 quoted-held w n d q m = go (stands w (quotZ n d)) refl
@@ -110,20 +110,14 @@ quoted-held w n d q m = go (stands w (quotZ n d)) refl
         let eq : wrapOf w (bits32 (quotZ n d)) ≡ q = cc in
         let em : wrapOf w (bits32 (remZ n d)) ≡ m = cc in
         record { quotient = rw (← eq) (wrap-lt w (bits32 (quotZ n d))); remainder = rw (← em) (wrap-lt w (bits32 (remZ n d))) }
-    go false e p =
-        let o = rw e at p in
-        let no : _≡_ {A = ℕ} 0 1 = cc in
-        absurd (omega arith)
+    go false e p = absurd (no-quotient q m (rw e at p))
 
 signed-held : (w : Bool) (a b q m : ℕ) → signedQuotient w a b ≡ Quotient q m → Held w q m
 unfolding signedQuotient
 signed-held w a b q m = go (eqb (wrapOf w b) 0) refl
   where
     go : (t : Bool) → eqb (wrapOf w b) 0 ≡ t → signedQuotient w a b ≡ Quotient q m → Held w q m
-    go true e p =
-        let o = rw e at p in
-        let no : _≡_ {A = ℕ} 0 1 = cc in
-        absurd (omega arith)
+    go true e p = absurd (no-quotient q m (rw e at p))
     go false e p = quoted-held w (signedOf (spanOf w) a) (signedOf (halfOf w) (wrapOf w b)) q m (rw e at p)
 
 unsigned-held : (w : Bool) (a b q m : ℕ) → unsignedQuotient w a b ≡ Quotient q m → Held w q m
@@ -151,40 +145,15 @@ module _ (f g ram rom : List ℕ) (w : Bool) (d : Divided) (x : ℕ) (e : x ≡ 
   unfolding divided
   trap-is ram′ n z h = rw z (memory-last _ h (file-seq _ (file-flags (column allUnknown) (all-kept x (getD g PSW 0) e)) file-pure))
 
-module _ (f g ram ram′ rom : List ℕ) (w : Bool) (by : Place) (b a : ℕ) (d : Divided) (t : Bool) (n m : Bus) where
-  pub divu-is : OnMemory ℕ (valueAt w by) f ram rom b f ram n 2 → a ≡ dividend w (fileOf f) → d ≡ unsignedQuotient w a b → OnMemory Bool (divided w d) f ram rom t g ram′ m 8
-      → OnMemory Bool (divu w by) f ram rom t g ram′ (n ⊕ m) 10
-  unfolding divu
-  divu-is h e q k = memory-seq _ {t = 2} {u = 8} h (memory-free _ file-registers (rw (← e, ← q) k))
-
-  pub div-is : OnMemory ℕ (valueAt w by) f ram rom b f ram n 2 → a ≡ dividend w (fileOf f) → d ≡ signedQuotient w a b → OnMemory Bool (divided w d) f ram rom t g ram′ m 8
-      → OnMemory Bool (div w by) f ram rom t g ram′ (n ⊕ m) 10
-  unfolding div
-  div-is h e q k = memory-seq _ {t = 2} {u = 8} h (memory-free _ file-registers (rw (← e, ← q) k))
+pub quotient-by : (quotient : Bool → ℕ → ℕ → Divided) (f g ram ram′ rom : List ℕ) (w : Bool) (by : Place) (b a : ℕ) (d : Divided) (t : Bool) (n m : Bus) → OnMemory ℕ (valueAt w by) f ram rom b f ram n 2
+    → a ≡ dividend w (fileOf f) → d ≡ quotient w a b → OnMemory Bool (divided w d) f ram rom t g ram′ m 8
+    → OnMemory Bool (valueAt w by >>= (λ y. registers >>= (λ r. divided w (quotient w (dividend w r) y)))) f ram rom t g ram′ (n ⊕ m) 10
+quotient-by quotient f g ram ram′ rom w by b a d t n m h e q k = memory-seq _ {t = 2} {u = 8} h (memory-free _ file-registers (rw (← e, ← q) k))
 
 -- ---- the group
 
-module _ (i : Multiply) (f g ram ram′ rom : List ℕ) (n : Bus) where
-  pub at-mulu : (w : Bool) (by : Place) → i ≡ Mulu w by → OnMemory Unit (mulu w by) f ram rom tt g ram′ n 2 → OnMemory Bool (multiply i) f ram rom false g ram′ n 10
-  unfolding multiply untrapped
-  at-mulu w by e h = rw e (memory-at-most {t = 2} 10 (lit≤ tt) (memory-last _ h file-pure))
-
-  pub at-mul : (w : Bool) (by : Place) → i ≡ Mul w by → OnMemory Unit (mul w by) f ram rom tt g ram′ n 2 → OnMemory Bool (multiply i) f ram rom false g ram′ n 10
-  unfolding multiply untrapped
-  at-mul w by e h = rw e (memory-at-most {t = 2} 10 (lit≤ tt) (memory-last _ h file-pure))
-
-  pub at-mul-byte : (reg : ℕ) (from : Place) (by : ℕ) → i ≡ MulByte reg from by → OnMemory Unit (mulBy reg from by) f ram rom tt g ram′ n 2 → OnMemory Bool (multiply i) f ram rom false g ram′ n 10
-  unfolding multiply untrapped
-  at-mul-byte reg from by e h = rw e (memory-at-most {t = 2} 10 (lit≤ tt) (memory-last _ h file-pure))
-
-  pub at-mul-word : (reg : ℕ) (from : Place) (by : ℕ) → i ≡ MulWord reg from by → OnMemory Unit (mulBy reg from by) f ram rom tt g ram′ n 2 → OnMemory Bool (multiply i) f ram rom false g ram′ n 10
-  unfolding multiply untrapped
-  at-mul-word reg from by e h = rw e (memory-at-most {t = 2} 10 (lit≤ tt) (memory-last _ h file-pure))
-
-  pub at-divu : (w : Bool) (by : Place) (t : Bool) → i ≡ Divu w by → OnMemory Bool (divu w by) f ram rom t g ram′ n 10 → OnMemory Bool (multiply i) f ram rom t g ram′ n 10
-  unfolding multiply
-  at-divu w by t e h = rw e h
-
-  pub at-div : (w : Bool) (by : Place) (t : Bool) → i ≡ Div w by → OnMemory Bool (div w by) f ram rom t g ram′ n 10 → OnMemory Bool (multiply i) f ram rom t g ram′ n 10
-  unfolding multiply
-  at-div w by t e h = rw e h
+-- a product takes no trap
+pub product-known : (i j : Multiply) (p : Act Unit) (f g ram ram′ rom : List ℕ) (n : Bus) → i ≡ j → multiply j ≡ untrapped p → OnMemory Unit p f ram rom tt g ram′ n 2
+    → OnMemory Bool (multiply i) f ram rom false g ram′ n 10
+unfolding untrapped
+product-known i j p f g ram ram′ rom n e q h = rw (e, q) (memory-at-most {t = 2} 10 (lit≤ tt) (memory-last _ h file-pure))

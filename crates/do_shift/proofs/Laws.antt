@@ -1,6 +1,6 @@
 -- What each form comes to, from what its parts come to.
 use Prim.Native.Nat.{ℕ, zero, suc, _≤_, _<_}
-use mathlib.Core.Path.{_≡_, ap}
+use mathlib.Core.Path.{_≡_}
 use mathlib.Core.Bool.{Bool}
 use mathlib.Core.List.{List}
 use native.Mathlib.Omega.{arith}
@@ -13,14 +13,15 @@ use Rattle.sheet.specs.declared.Places.{Places}
 use Rattle.sheet.specs.declared.Places.the-variants.{One, Counted}
 use Rattle.sheet.specs.declared.Shift.{Shift}
 use Rattle.sheet.specs.declared.Spot.{Spot}
-use Rattle.sheet.specs.Psw.{CY, flagOf, column}
+use Rattle.sheet.specs.Psw.{CY, flagOf}
 use Rattle.sheet.specs.Registers.{PSW}
 use Rattle.sheet.specs.Handler.{_⊕_}
 use Rattle.sheet.specs.Operand.{locate, fetch, deposit, amountOf}
 use Rattle.sheet.specs.Arithmetic.{Result}
 use Rattle.sheet.specs.Shift.{carryIn, finish, shiftOne, shiftMany, shiftBy, shift}
 use Rattle.sheet.specs.Contract.{OnFile, OnMemory, flagged}
-use Rattle.sheet.proofs.Lifted.{file-flags, memory-seq, memory-free}
+use Rattle.sheet.proofs.Lifted.{memory-seq, memory-free}
+use Rattle.psw.proofs.Results.{file-affect, value-is}
 use Rattle.shift.specs.Carry.{carried}
 use Rattle.shift.proofs.CarryLaws.{carry-ends}
 
@@ -30,10 +31,8 @@ carry-file k f = record { at = λ s ram rom tape log. carry-ends k _ }
 module _ (f g ram ram′ rom : List ℕ) (k : Shift) (w : Bool) where
   finish-is : (s : Spot) (r : Result) (y : Flagged) (n : Bus) → y ≡ flagged r (getD f PSW 0) → OnMemory Unit (deposit w s (y .value)) (set f PSW (y .psw)) ram rom tt g ram′ n 2
       → OnMemory Unit (finish w s r) f ram rom tt g ram′ n 2
-  unfolding finish flagged
-  finish-is s r y n e h =
-      let v : y .value ≡ r .value = ap (λ (z : Flagged). z .value) e in
-      memory-free _ (file-flags (column (r .column)) (ap (λ (z : Flagged). z .psw) e)) (rw v at h)
+  unfolding finish
+  finish-is s r y n e h = memory-free _ (file-affect r f y e) (rw (value-is r f y e) at h)
 
   pub one-is : (to : Place) (s : Spot) (x : ℕ) (cy : Bool) (y : Flagged) (n m : Bus) → OnFile Spot (locate to) f s f → OnMemory ℕ (fetch w s) f ram rom x f ram n 2
       → cy ≡ carried k (flagOf (getD f PSW 0) CY) → y ≡ flagged (shiftOne k w x cy) (getD f PSW 0)
@@ -59,9 +58,5 @@ module _ (f g ram ram′ rom : List ℕ) (k : Shift) (w : Bool) where
   unfolding shift
   counted-is to a s i x n m c p q h = memory-free _ c (memory-free _ p (memory-seq _ {t = 2} {u = 2} q h))
 
-  module _ (to : Place) (places : Places) (n : Bus) where
-    pub at-one : places ≡ One → OnMemory Unit (shift k w to One) f ram rom tt g ram′ n 4 → OnMemory Unit (shift k w to places) f ram rom tt g ram′ n 4
-    at-one e h = rw e h
-
-    pub at-counted : (a : Amount) → places ≡ Counted a → OnMemory Unit (shift k w to (Counted a)) f ram rom tt g ram′ n 4 → OnMemory Unit (shift k w to places) f ram rom tt g ram′ n 4
-    at-counted a e h = rw e h
+  pub places-known : (to : Place) (i j : Places) (n : Bus) → i ≡ j → OnMemory Unit (shift k w to j) f ram rom tt g ram′ n 4 → OnMemory Unit (shift k w to i) f ram rom tt g ram′ n 4
+  places-known to i j n e h = rw e h

@@ -3,15 +3,12 @@ use Prim.Native.Nat.{ℕ, _<_}
 use mathlib.Core.Path.{_≡_}
 use mathlib.Core.Bool.{true}
 use mathlib.Core.List.{List}
-use lib.Dec.{lit≤}
 use lib.ListN.{getD, set}
 use Rattle.sheet.specs.declared.Bus.{Bus}
 use Rattle.sheet.specs.declared.Address.{Address}
 use Rattle.sheet.specs.declared.Place.{Place}
-use Rattle.sheet.specs.declared.Place.the-variants.{Register, Memory}
+use Rattle.sheet.specs.declared.Place.the-variants.{Memory}
 use Rattle.sheet.specs.declared.Spot.{Spot}
-use Rattle.sheet.specs.declared.Stack.{Stack}
-use Rattle.sheet.specs.declared.Stack.the-variants.{Push, PushByte, PushWord, PushSegment, PushPsw, PushR, Pop, PopSegment, PopPsw, PopR, Prepare, Dispose}
 use Rattle.sheet.specs.Width.{sub16}
 use Rattle.sheet.specs.Psw.{flagOf, pack, restored, settled}
 use Rattle.sheet.specs.Registers.{SP, SS, PSW, fileOf, segment, readReg}
@@ -19,9 +16,9 @@ use Rattle.sheet.specs.Act.{_≔_}
 use Rattle.sheet.specs.Handler.{_⊕_}
 use Rattle.sheet.specs.Operand.{locate, deposit, valueAt}
 use Rattle.sheet.specs.Traps.{push, pop}
-use Rattle.sheet.specs.Stack.{pushRegister, pushPlace, pushSegment, pushPsw, pushR, popPlace, popSegment, popPsw, popR, prepare, dispose, stack}
+use Rattle.sheet.specs.Stack.{pushRegister, pushPlace, pushSegment, pushPsw, popPlace, popSegment, popPsw}
 use Rattle.sheet.specs.Contract.{OnFile, OnMemory}
-use Rattle.sheet.proofs.Lifted.{file-registers, file-set, file-flags, file-psw, memory-seq, memory-free, memory-last, memory-at-most}
+use Rattle.sheet.proofs.Lifted.{file-registers, file-set, file-flags, file-psw, memory-seq, memory-free, memory-last}
 use Rattle.word.proofs.WidthLaws.{wrap-id}
 use Rattle.memory.specs.Accesses.{Stores}
 use Rattle.do_stack.specs.Held.{pushHeld}
@@ -37,10 +34,6 @@ module _ (f g ram ram′ rom : List ℕ) where
       → OnMemory Unit (pushHeld from) f ram rom tt g ram′ (n ⊕ m) 4
   unfolding pushHeld
   push-held-is from v n m p q = memory-seq _ {t = 2} {u = 2} p q
-
-  pub at-register : (from : Place) (r : ℕ) (n : Bus) → from ≡ Register r → OnMemory Unit (pushRegister r) f ram rom tt g ram′ n 2 → OnMemory Unit (pushPlace from) f ram rom tt g ram′ n 4
-  unfolding pushPlace
-  at-register from r n e h = rw e (memory-at-most {t = 2} 4 (lit≤ tt) h)
 
   pub at-memory : (from p : Place) (a : Address) (n : Bus) → from ≡ Memory a → p ≡ Memory a → OnMemory Unit (pushHeld p) f ram rom tt g ram′ n 4 → OnMemory Unit (pushPlace from) f ram rom tt g ram′ n 4
   unfolding pushPlace pushHeld
@@ -66,54 +59,3 @@ module _ (f g ram ram′ rom : List ℕ) where
   pub pop-psw-is : (v x : ℕ) (n : Bus) → OnMemory ℕ pop f ram rom v g ram n 2 → x ≡ pack (flagOf v) → OnMemory Unit popPsw f ram rom tt (set g PSW x) ram n 2
   unfolding popPsw settled
   pop-psw-is v x n p e = memory-last _ p (file-flags (restored v) e)
-
--- ---- the group
-
-module _ (i : Stack) (f g ram ram′ rom : List ℕ) (n : Bus) where
-  pub at-push : (from : Place) → i ≡ Push from → OnMemory Unit (pushPlace from) f ram rom tt g ram′ n 4 → OnMemory Unit (stack i) f ram rom tt g ram′ n 1020
-  unfolding stack
-  at-push from e h = rw e (memory-at-most {t = 4} 1020 (lit≤ tt) h)
-
-  pub at-push-byte : (v : ℕ) → i ≡ PushByte v → OnMemory Unit (push v) f ram rom tt g ram′ n 2 → OnMemory Unit (stack i) f ram rom tt g ram′ n 1020
-  unfolding stack
-  at-push-byte v e h = rw e (memory-at-most {t = 2} 1020 (lit≤ tt) h)
-
-  pub at-push-word : (v : ℕ) → i ≡ PushWord v → OnMemory Unit (push v) f ram rom tt g ram′ n 2 → OnMemory Unit (stack i) f ram rom tt g ram′ n 1020
-  unfolding stack
-  at-push-word v e h = rw e (memory-at-most {t = 2} 1020 (lit≤ tt) h)
-
-  pub at-push-segment : (seg : ℕ) → i ≡ PushSegment seg → OnMemory Unit (pushSegment seg) f ram rom tt g ram′ n 2 → OnMemory Unit (stack i) f ram rom tt g ram′ n 1020
-  unfolding stack
-  at-push-segment seg e h = rw e (memory-at-most {t = 2} 1020 (lit≤ tt) h)
-
-  pub at-push-psw : i ≡ PushPsw → OnMemory Unit pushPsw f ram rom tt g ram′ n 2 → OnMemory Unit (stack i) f ram rom tt g ram′ n 1020
-  unfolding stack
-  at-push-psw e h = rw e (memory-at-most {t = 2} 1020 (lit≤ tt) h)
-
-  pub at-push-r : i ≡ PushR → OnMemory Unit pushR f ram rom tt g ram′ n 16 → OnMemory Unit (stack i) f ram rom tt g ram′ n 1020
-  unfolding stack
-  at-push-r e h = rw e (memory-at-most {t = 16} 1020 (lit≤ tt) h)
-
-  pub at-pop : (to : Place) → i ≡ Pop to → OnMemory Unit (popPlace to) f ram rom tt g ram′ n 4 → OnMemory Unit (stack i) f ram rom tt g ram′ n 1020
-  unfolding stack
-  at-pop to e h = rw e (memory-at-most {t = 4} 1020 (lit≤ tt) h)
-
-  pub at-pop-segment : (seg : ℕ) → i ≡ PopSegment seg → OnMemory Unit (popSegment seg) f ram rom tt g ram′ n 2 → OnMemory Unit (stack i) f ram rom tt g ram′ n 1020
-  unfolding stack
-  at-pop-segment seg e h = rw e (memory-at-most {t = 2} 1020 (lit≤ tt) h)
-
-  pub at-pop-psw : i ≡ PopPsw → OnMemory Unit popPsw f ram rom tt g ram′ n 2 → OnMemory Unit (stack i) f ram rom tt g ram′ n 1020
-  unfolding stack
-  at-pop-psw e h = rw e (memory-at-most {t = 2} 1020 (lit≤ tt) h)
-
-  pub at-pop-r : i ≡ PopR → OnMemory Unit popR f ram rom tt g ram′ n 16 → OnMemory Unit (stack i) f ram rom tt g ram′ n 1020
-  unfolding stack
-  at-pop-r e h = rw e (memory-at-most {t = 16} 1020 (lit≤ tt) h)
-
-  pub at-prepare : (size level : ℕ) → i ≡ Prepare size level → OnMemory Unit (prepare size level) f ram rom tt g ram′ n 1020 → OnMemory Unit (stack i) f ram rom tt g ram′ n 1020
-  unfolding stack
-  at-prepare size level e h = rw e h
-
-  pub at-dispose : i ≡ Dispose → OnMemory Unit dispose f ram rom tt g ram′ n 2 → OnMemory Unit (stack i) f ram rom tt g ram′ n 1020
-  unfolding stack
-  at-dispose e h = rw e (memory-at-most {t = 2} 1020 (lit≤ tt) h)

@@ -8,14 +8,12 @@ use lib.ListN.{getD, set}
 use borrow.Author.Tests.{eq-eqb, ne-eqb}
 use Rattle.sheet.specs.declared.Bus.{Bus}
 use Rattle.sheet.specs.declared.Primitive.{Primitive}
-use Rattle.sheet.specs.declared.Primitive.the-variants.{Movbk, Cmpbk, Cmpm, Ldm, Stm, Inm, Outm}
 use Rattle.sheet.specs.declared.Repeat.{Repeat}
-use Rattle.sheet.specs.declared.Repeat.the-variants.{Once, WhileZ, WhileNotZ, WhileCy, WhileNotCy}
 use Rattle.sheet.specs.Width.{bytesOf, add16, sub16}
-use Rattle.sheet.specs.Psw.{CY, Z, DIR, flagOf}
-use Rattle.sheet.specs.Registers.{CW, IX, IY, DS1, PC, PSW, fileOf, segment}
-use Rattle.sheet.specs.Act.{pure, _≔_}
-use Rattle.sheet.specs.Block.{stepIndex, sourceElement, targetElement, setTarget, goesOn, goesOnAfter}
+use Rattle.sheet.specs.Psw.{Flag, DIR, flagOf}
+use Rattle.sheet.specs.Registers.{CW, IX, IY, DS1, PC, PSW, fileOf, written, segment}
+use Rattle.sheet.specs.Act.{pure, _>>=_, _≔_, flag}
+use Rattle.sheet.specs.Block.{stepIndex, sourceElement, targetElement, setTarget, goesOnAfter}
 use Rattle.sheet.specs.Contract.{OnFile, OnMemory}
 use Rattle.sheet.proofs.Lifted.{file-seq, file-pure, file-registers, file-set, file-flag, file-true, file-false, memory-free}
 use Rattle.memory.specs.Accesses.{Loads, Stores}
@@ -35,14 +33,9 @@ module _ (w down : Bool) (x n y : ℕ) where
   unfolding steppedOf
   stepped-up d e q = rw (d, ← e) q
 
-module _ (f : List ℕ) (w down : Bool) (x : ℕ) where
-  pub step-ix-is : down ≡ flagOf (getD f PSW 0) DIR → x ≡ steppedOf w down (getD f IX 0) → OnFile Unit (stepIndex w IX) f tt (set f IX x)
-  unfolding stepIndex steppedOf
-  step-ix-is e q = file-seq _ (file-flag DIR) (file-seq _ file-registers (rw (← e, ← q) (file-set IX x)))
-
-  pub step-iy-is : down ≡ flagOf (getD f PSW 0) DIR → x ≡ steppedOf w down (getD f IY 0) → OnFile Unit (stepIndex w IY) f tt (set f IY x)
-  unfolding stepIndex steppedOf
-  step-iy-is e q = file-seq _ (file-flag DIR) (file-seq _ file-registers (rw (← e, ← q) (file-set IY x)))
+pub step-is : (n : ℕ) (f : List ℕ) (w down : Bool) (x : ℕ) → down ≡ flagOf (getD f PSW 0) DIR → x ≡ steppedOf w down (fileOf f n) → OnFile Unit (stepIndex w n) f tt (written f n x)
+unfolding stepIndex steppedOf
+step-is n f w down x e q = file-seq _ (file-flag DIR e) (file-seq _ file-registers (rw (← q) (file-set n x)))
 
 -- ---- the elements due
 
@@ -70,55 +63,12 @@ module _ (n : ℕ) where
   unfolding countedDue
   due-one h = rw (ne-eqb n 0 h)
 
-pub on-once : (f : List ℕ) (q : Repeat) → q ≡ Once → OnFile Bool (goesOn q) f false f
-unfolding goesOn
-on-once f q e = rw e file-pure
-
-module _ (f : List ℕ) (q : Repeat) (b : Bool) where
-  pub on-z : q ≡ WhileZ → b ≡ flagOf (getD f PSW 0) Z → OnFile Bool (goesOn q) f b f
-  unfolding goesOn
-  on-z e h = rw (e, h) (file-flag Z)
-
-  pub on-not-z : q ≡ WhileNotZ → b ≡ flagOf (getD f PSW 0) Z → OnFile Bool (goesOn q) f (not b) f
-  unfolding goesOn
-  on-not-z e h = rw (e, h) (file-seq _ (file-flag Z) file-pure)
-
-  pub on-cy : q ≡ WhileCy → b ≡ flagOf (getD f PSW 0) CY → OnFile Bool (goesOn q) f b f
-  unfolding goesOn
-  on-cy e h = rw (e, h) (file-flag CY)
-
-  pub on-not-cy : q ≡ WhileNotCy → b ≡ flagOf (getD f PSW 0) CY → OnFile Bool (goesOn q) f (not b) f
-  unfolding goesOn
-  on-not-cy e h = rw (e, h) (file-seq _ (file-flag CY) file-pure)
+pub denied : (q : Flag) {f : List ℕ} {b : Bool} → b ≡ flagOf (getD f PSW 0) q → OnFile Bool (flag q >>= (λ c. pure (not c))) f (not b) f
+denied q e = file-seq _ (file-flag q e) file-pure
 
 module _ (f : List ℕ) (k : Primitive) (q : Repeat) where
-  pub on-movbk : k ≡ Movbk → OnFile Bool (goesOnAfter k q) f true f
-  unfolding goesOnAfter
-  on-movbk e = rw e file-pure
-
-  pub on-cmpbk : (b : Bool) → k ≡ Cmpbk → OnFile Bool (goesOn q) f b f → OnFile Bool (goesOnAfter k q) f b f
-  unfolding goesOnAfter
-  on-cmpbk b e h = rw e h
-
-  pub on-cmpm : (b : Bool) → k ≡ Cmpm → OnFile Bool (goesOn q) f b f → OnFile Bool (goesOnAfter k q) f b f
-  unfolding goesOnAfter
-  on-cmpm b e h = rw e h
-
-  pub on-ldm : k ≡ Ldm → OnFile Bool (goesOnAfter k q) f true f
-  unfolding goesOnAfter
-  on-ldm e = rw e file-pure
-
-  pub on-stm : k ≡ Stm → OnFile Bool (goesOnAfter k q) f true f
-  unfolding goesOnAfter
-  on-stm e = rw e file-pure
-
-  pub on-inm : k ≡ Inm → OnFile Bool (goesOnAfter k q) f true f
-  unfolding goesOnAfter
-  on-inm e = rw e file-pure
-
-  pub on-outm : k ≡ Outm → OnFile Bool (goesOnAfter k q) f true f
-  unfolding goesOnAfter
-  on-outm e = rw e file-pure
+  pub after-known : (j : Primitive) (b : Bool) → k ≡ j → OnFile Bool (goesOnAfter j q) f b f → OnFile Bool (goesOnAfter k q) f b f
+  after-known j b e h = rw e h
 
   module _ (start cw : ℕ) (on : Bool) where
     pub stays : cw ≡ sub16 (getD f CW 0) 1 → OnFile Bool (goesOnAfter k q) (set f CW cw) on (set f CW cw) → (not on || eqb cw 0) ≡ true → OnFile Unit (afterElement k q start) f tt (set f CW cw)

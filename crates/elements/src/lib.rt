@@ -12,7 +12,6 @@ use sheet::Repeat;
 ghost use mathlib.Core.Path.{_≡_};
 ghost use mathlib.Core.Bool.{Bool};
 ghost use Prim.Native.Nat.{ℕ};
-ghost use Rattle.sheet.specs.Width.{bytesOf};
 ghost use Rattle.sheet.specs.Registers as sheet;
 ghost use Rattle.sheet.specs.Block as tree;
 ghost use Rattle.sheet.specs.Contract.{OnFile, OnMemory};
@@ -22,17 +21,11 @@ ghost use Rattle.elements.specs.Due.{countedDue, dueOf};
 
 // ---- the index registers
 
-fn bytes(word: bool) -> u16
-    ensures { λ r. ⌜ r ≡ bytesOf word ⌝ }
-{
-    if word { 2 } else { 1 }
-}
-
 // An index one element on.
 fn stepped(word: bool, down: bool, x: u16) -> u16
     ensures { λ r. ⌜ r ≡ steppedOf word down x ⌝ }
 {
-    let n = bytes(word);
+    let n = word::bytes(word);
     if down {
         return word::minus16(x, n);
     }

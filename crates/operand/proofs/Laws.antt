@@ -1,7 +1,7 @@
 -- What each return of the code comes to, over plain values.
 use Prim.Native.Nat.{ℕ, _%_}
 use mathlib.Core.Path.{_≡_}
-use mathlib.Core.Bool.{Bool, true}
+use mathlib.Core.Bool.{Bool, true, false}
 use mathlib.Core.List.{List}
 use native.Mathlib.Omega.{arith}
 use lib.ListN.{getD}
@@ -20,12 +20,13 @@ use Rattle.sheet.specs.declared.Source.the-variants.{Held, Immediate}
 use Rattle.sheet.specs.declared.Spot.{Spot}
 use Rattle.sheet.specs.declared.Spot.the-variants.{InRegister, InMemory}
 use Rattle.sheet.specs.Width.{add16}
-use Rattle.sheet.specs.Registers.{CW, fileOf, segment, readReg}
+use Rattle.sheet.specs.Registers.{CW, CL, fileOf, readReg}
 use Rattle.sheet.specs.Handler.{nothing, _⊕_}
-use Rattle.sheet.specs.Operand.{indexOf, formAt, formOffset, offsetOf, baseOf, regValue, setReg, locate, fetch, deposit, valueAt, sourceValue, pairAt, amountOf}
+use Rattle.sheet.specs.Operand.{indexOf, formAt, formOffset, offsetOf, baseOf, setReg, locate, fetch, deposit, valueAt, sourceValue, pairAt, amountOf}
 use Rattle.sheet.specs.Contract.{OnFile, OnMemory}
 use Rattle.sheet.proofs.Lifted.{file-seq, file-pure, file-registers, memory-seq, memory-free, memory-last, on-memory}
 use Rattle.memory.specs.Accesses.{Loads, Stores}
+use Rattle.registers.proofs.Laws.{file-reg}
 
 pub index-of : (f : List ℕ) (i : Index) (n x : ℕ) → i ≡ Of n → x ≡ readReg true (fileOf f) n → x ≡ indexOf (fileOf f) i
 unfolding indexOf
@@ -48,13 +49,8 @@ pub offset-direct : (f : List ℕ) (a : Address) (seg x : ℕ) → a ≡ Direct 
 unfolding offsetOf
 offset-direct f a seg x e = rw e
 
-pub base-formed : (f : List ℕ) (a : Address) (seg n disp x : ℕ) → a ≡ Formed seg n disp → x ≡ fileOf f (segment seg) → x ≡ baseOf (fileOf f) a
-unfolding baseOf
-base-formed f a seg n disp x e q = rw (e, q)
-
-pub base-direct : (f : List ℕ) (a : Address) (seg n x : ℕ) → a ≡ Direct seg n → x ≡ fileOf f (segment seg) → x ≡ baseOf (fileOf f) a
-unfolding baseOf
-base-direct f a seg n x e q = rw (e, q)
+pub base-known : (f : List ℕ) (a b : Address) (x : ℕ) → a ≡ b → x ≡ baseOf (fileOf f) b → x ≡ baseOf (fileOf f) a
+base-known f a b x e q = rw e q
 
 pub in-register : (f : List ℕ) (p : Place) (n : ℕ) → p ≡ Register n → OnFile Spot (locate p) f (InRegister n) f
 unfolding locate
@@ -66,8 +62,8 @@ in-memory f p a g o e q h = rw (e, q, h) (file-seq _ file-registers file-pure)
 
 module _ (w : Bool) (s : Spot) (f ram rom : List ℕ) where
   pub fetch-register : (n v : ℕ) → s ≡ InRegister n → v ≡ readReg w (fileOf f) n → OnMemory ℕ (fetch w s) f ram rom v f ram nothing 2
-  unfolding fetch regValue
-  fetch-register n v e q = rw (e, q) (on-memory ram rom 2 (file-seq _ file-registers file-pure))
+  unfolding fetch
+  fetch-register n v e q = rw e (on-memory ram rom 2 (file-reg w n q))
 
   pub fetch-memory : (g o v : ℕ) (n : Bus) → s ≡ InMemory g o → Loads w ram rom g o v n → OnMemory ℕ (fetch w s) f ram rom v f ram n 2
   unfolding fetch
@@ -101,8 +97,8 @@ pair-is a f ram rom g o q x y n m e h k u v =
     memory-free _ file-registers (rw (← e, ← h, ← k) (memory-seq _ (u .at f) (memory-last _ (v .at f) file-pure)))
 
 pub amount-cl : (a : Amount) (f : List ℕ) (v : ℕ) → a ≡ InCl → v ≡ getD f CW 0 % 256 → OnFile ℕ (amountOf a) f v f
-unfolding amountOf regValue readReg
-amount-cl a f v e q = rw (e, q) (file-seq _ file-registers file-pure)
+unfolding amountOf readReg
+amount-cl a f v e q = rw e (file-reg false CL q)
 
 pub amount-given : (a : Amount) (f : List ℕ) (n : ℕ) → a ≡ Given n → OnFile ℕ (amountOf a) f n f
 unfolding amountOf

@@ -8,9 +8,9 @@ use lib.ListN.{getD, set}
 use borrow.Author.Tests.{lt-ltb, le-ltb}
 use Rattle.sheet.specs.Registers.{PSW, fileOf, written, segment, readReg, regIndex, regWord}
 use Rattle.sheet.specs.Act.{_≔_}
-use Rattle.sheet.specs.Operand.{setReg}
+use Rattle.sheet.specs.Operand.{regValue, setReg}
 use Rattle.sheet.specs.Contract.{OnFile}
-use Rattle.sheet.proofs.Lifted.{file-seq, file-registers, file-set}
+use Rattle.sheet.proofs.Lifted.{file-seq, file-pure, file-registers, file-set}
 
 -- a register below PSW is a word of the file
 pub file-word : (f : List ℕ) (n : ℕ) → n < PSW → fileOf f n ≡ getD f n 0
@@ -37,6 +37,10 @@ module _ (w : Bool) (f : List ℕ) (n x : ℕ) where
   pub read-high : w ≡ false → 4 ≤ n % 8 → x ≡ getD f (n % 4) 0 → x / 256 ≡ readReg w (fileOf f) n
   unfolding readReg
   read-high p h q = rw (p, le-ltb (n % 8) 4 h, file-word f (n % 4) (fourth n), q)
+
+pub file-reg : (w : Bool) (n : ℕ) {f : List ℕ} {x : ℕ} → x ≡ readReg w (fileOf f) n → OnFile ℕ (regValue w n) f x f
+unfolding regValue
+file-reg w n e = rw e (file-seq _ file-registers file-pure)
 
 -- a register is set once its word and that word's number are known
 set-is : (w : Bool) (f g : List ℕ) (n v i x : ℕ) → i < PSW → regIndex w n ≡ i → regWord w (fileOf f) n v ≡ x → g ≡ set f i x → OnFile Unit (setReg w n v) f tt g

@@ -29,8 +29,8 @@ file-registers = record { at = λ s ram rom tape log. ends-registers }
 pub file-set : (n v : ℕ) {f : List ℕ} → OnFile Unit (n ≔ v) f tt (written f n v)
 file-set n v = record { at = λ s ram rom tape log. ends-set n v }
 
-pub file-flag : (q : Flag) {f : List ℕ} → OnFile Bool (flag q) f (flagOf (getD f PSW 0) q) f
-file-flag q = record { at = λ s ram rom tape log. ends-flag q }
+pub file-flag : (q : Flag) {f : List ℕ} {b : Bool} → b ≡ flagOf (getD f PSW 0) q → OnFile Bool (flag q) f b f
+file-flag q e = record { at = λ s ram rom tape log. rw e (ends-flag q) }
 
 pub file-psw : (b : Bool) {f : List ℕ} → OnFile ℕ (psw b) f (wrapOf b (getD f PSW 0)) f
 file-psw b = record { at = λ s ram rom tape log. ends-psw b }
@@ -91,3 +91,12 @@ module _ {A : Type 0} (p q : Act A) {c : Bool} {f g : List ℕ} {a : A} where
 
   pub memory-false : {ram rom ram′ : List ℕ} {n : Bus} {t : ℕ} → c ≡ false → OnMemory A q f ram rom a g ram′ n t → OnMemory A (pick c p q) f ram rom a g ram′ n t
   memory-false e h = rw e h
+
+-- ---- an instruction that is known to be another
+
+module _ {I A : Type 0} (tree : I → Act A) {i j : I} {f g : List ℕ} {a : A} where
+  pub file-known : i ≡ j → OnFile A (tree j) f a g → OnFile A (tree i) f a g
+  file-known e h = rw e h
+
+  pub memory-known : {ram rom ram′ : List ℕ} {n : Bus} {t u : ℕ} → i ≡ j → t ≤ u → OnMemory A (tree j) f ram rom a g ram′ n t → OnMemory A (tree i) f ram rom a g ram′ n u
+  memory-known {u = u} e q h = memory-at-most u q (rw e h)

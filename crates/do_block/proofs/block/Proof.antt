@@ -1,18 +1,12 @@
-use Rattle.do_block.proofs.Laws.{element-due, nothing-due, single-due}
+use Rattle.sheet.proofs.Lifted.{file-pure, on-memory}
+use Rattle.elements.specs.Due.{dueTree}
+use Rattle.do_block.proofs.Laws.{due-known}
 use borrow.Author.Needs.{needs}
 use Rattle.do_block.proofs.block.Statement.{statement}
 use Rattle.do_block.proofs.block.Tie as tie
 
-returns : tie.Need-returns
-returns c = search (nothing-due, needs)
-
-returns-2 : tie.Need-returns-2
-returns-2 c = search (single-due, needs)
-
-returns-3 : tie.Need-returns-3
-returns-3 c = search (element-due, needs)
-
 pub block-spec : {M : Type 1} → statement M
+unfolding dueTree
 block-spec =
     tie.close
     (tie.spec
@@ -23,8 +17,8 @@ block-spec =
     (λ c κs. search needs)
     (λ c. search needs)
     (λ c κs. search needs)
-    returns
+    (λ c. search (due-known, on-memory, file-pure, needs))
     (λ c. search needs)
-    returns-2
+    (λ c. search (due-known, needs))
     (λ c. search needs)
-    returns-3)
+    (λ c. search (due-known, needs)))

@@ -1,25 +1,11 @@
-use Rattle.do_conditional.proofs.Laws.{asks-0, asks-1, asks-2, asks-3, asks-4, asks-5, asks-6, asks-7}
+use Rattle.sheet.proofs.Lifted.{file-flag}
+use Rattle.do_conditional.proofs.Laws.{asks, asks-3, asks-6, asks-7}
 use borrow.Author.Needs.{needs}
 use Rattle.do_conditional.proofs.asked.Statement.{statement}
 use Rattle.do_conditional.proofs.asked.Tie as tie
 
-returns : tie.Need-returns
-returns c = search (asks-0, needs)
-
-returns-2 : tie.Need-returns-2
-returns-2 c = search (asks-1, needs)
-
-returns-3 : tie.Need-returns-3
-returns-3 c = search (asks-2, needs)
-
 returns-4 : tie.Need-returns-4
 returns-4 c = search (asks-3, needs)
-
-returns-5 : tie.Need-returns-5
-returns-5 c = search (asks-4, needs)
-
-returns-6 : tie.Need-returns-6
-returns-6 c = search (asks-5, needs)
 
 returns-7 : tie.Need-returns-7
 returns-7 c = search (asks-6, needs)
@@ -44,11 +30,11 @@ asked-spec =
     (λ c κs. search needs)
     (λ c κs. search needs)
     (λ c κs. search needs)
-    returns
-    returns-2
-    returns-3
+    (λ c. search (asks, file-flag, needs))
+    (λ c. search (asks, file-flag, needs))
+    (λ c. search (asks, file-flag, needs))
     returns-4
-    returns-5
-    returns-6
+    (λ c. search (asks, file-flag, needs))
+    (λ c. search (asks, file-flag, needs))
     returns-7
     returns-8)

@@ -1,4 +1,5 @@
-use Rattle.do_multiply.proofs.Laws.{div-is, signed-within}
+use Rattle.sheet.specs.Multiply.{div, signedQuotient}
+use Rattle.do_multiply.proofs.Laws.{quotient-by, signed-within}
 use borrow.Author.Needs.{needs}
 use Rattle.do_multiply.proofs.div.Statement.{statement}
 use Rattle.do_multiply.proofs.div.Tie as tie
@@ -7,7 +8,8 @@ divided-requires : tie.Need-divided-requires
 divided-requires c κs = search (signed-within, needs)
 
 returns : tie.Need-returns
-returns c = search (div-is, needs)
+unfolding div
+returns c = search (quotient-by signedQuotient, needs)
 
 pub div-spec : {M : Type 1} → statement M
 div-spec =

@@ -1,4 +1,5 @@
-use Rattle.do_multiply.proofs.Laws.{divu-is, unsigned-within}
+use Rattle.sheet.specs.Multiply.{divu, unsignedQuotient}
+use Rattle.do_multiply.proofs.Laws.{quotient-by, unsigned-within}
 use borrow.Author.Needs.{needs}
 use Rattle.do_multiply.proofs.divu.Statement.{statement}
 use Rattle.do_multiply.proofs.divu.Tie as tie
@@ -7,7 +8,8 @@ divided-requires : tie.Need-divided-requires
 divided-requires c κs = search (unsigned-within, needs)
 
 returns : tie.Need-returns
-returns c = search (divu-is, needs)
+unfolding divu
+returns c = search (quotient-by unsignedQuotient, needs)
 
 pub divu-spec : {M : Type 1} → statement M
 divu-spec =

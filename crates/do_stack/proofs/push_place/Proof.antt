@@ -1,15 +1,15 @@
-use Rattle.do_stack.proofs.Laws.{at-memory, at-register}
+use Rattle.sheet.specs.Stack.{pushPlace}
+use Rattle.sheet.proofs.Lifted.{memory-known}
+use Rattle.do_stack.proofs.Laws.{at-memory}
 use borrow.Author.Needs.{needs}
 use Rattle.do_stack.proofs.push_place.Statement.{statement}
 use Rattle.do_stack.proofs.push_place.Tie as tie
-
-returns : tie.Need-returns
-returns c = search (at-register, needs)
 
 returns-2 : tie.Need-returns-2
 returns-2 c = search (at-memory, needs)
 
 pub push-place-spec : {M : Type 1} → statement M
+unfolding pushPlace
 push-place-spec =
     tie.close
     (tie.spec
@@ -18,6 +18,6 @@ push-place-spec =
     (λ c. search needs)
     (λ c κs. search needs)
     (λ c. search needs)
-    returns
+    (λ c. search (memory-known pushPlace, needs))
     (λ c. search needs)
     returns-2)

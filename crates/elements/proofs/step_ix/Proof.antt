@@ -1,10 +1,11 @@
-use Rattle.elements.proofs.Laws.{step-ix-is}
+use Rattle.sheet.specs.Registers.{IX}
+use Rattle.elements.proofs.Laws.{step-is}
 use borrow.Author.Needs.{needs}
 use Rattle.elements.proofs.step_ix.Statement.{statement}
 use Rattle.elements.proofs.step_ix.Tie as tie
 
 returns : tie.Need-returns
-returns c = search (step-ix-is, needs)
+returns c = search (step-is IX, needs)
 
 pub step-ix-spec : {M : Type 1} → statement M
 step-ix-spec =

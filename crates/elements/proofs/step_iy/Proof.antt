@@ -1,10 +1,11 @@
-use Rattle.elements.proofs.Laws.{step-iy-is}
+use Rattle.sheet.specs.Registers.{IY}
+use Rattle.elements.proofs.Laws.{step-is}
 use borrow.Author.Needs.{needs}
 use Rattle.elements.proofs.step_iy.Statement.{statement}
 use Rattle.elements.proofs.step_iy.Tie as tie
 
 returns : tie.Need-returns
-returns c = search (step-iy-is, needs)
+returns c = search (step-is IY, needs)
 
 pub step-iy-spec : {M : Type 1} → statement M
 step-iy-spec =
