@@ -2,13 +2,12 @@
 use Prim.Native.Nat.{ℕ}
 use mathlib.Core.Bool.{Bool}
 use mathlib.Core.List.{List}
-use mathlib.Core.Path.{_≡_}
+use mathlib.Core.Path.{_≡_, refl}
 use lib.ListN.{getD}
 use Rattle.sheet.specs.declared.Bus.{Bus}
 use Rattle.sheet.specs.declared.Progress.{Progress}
 use Rattle.sheet.specs.declared.Port.{Port}
 use Rattle.sheet.specs.declared.Port.the-variants.{InDw, Numbered}
-use Rattle.sheet.specs.declared.Io.{Io}
 use Rattle.sheet.specs.declared.Io.the-variants.{In, Out}
 use Rattle.sheet.specs.Registers.{AW, DW, fileOf, readReg}
 use Rattle.sheet.specs.World.{world, stateOf}
@@ -18,6 +17,7 @@ use Rattle.sheet.specs.Ports.{portNumber, ports}
 use Rattle.sheet.specs.Contract.{Ends, OnFile}
 use Rattle.sheet.proofs.Rules.{seq-free, seq-last, seq-stops, seq-then-stops}
 use Rattle.sheet.proofs.Lifted.{file-seq, file-pure, file-registers}
+use Rattle.registers.proofs.Laws.{file-reg}
 use Rattle.ports.specs.Accesses.{Gives, Takes, OnPorts}
 use Rattle.ports.proofs.Told.{ports-end, ports-stop}
 
@@ -30,11 +30,12 @@ unfolding portNumber
 port-numbered f p n e = rw e file-pure
 
 module _ (w : Bool) (port : Port) (f g ram rom tape log log′ : List ℕ) (q q′ : Progress) (number n v : ℕ) (c : Bus) (k : OnFile ℕ (portNumber port) f n f) where
-  pub input-done : Takes w n tape log q number v log′ q′ c → number ≡ 0 → OnFile Unit (setReg w AW v) f tt g → OnPorts (ports (In w port)) f ram rom tape log q 0 g ram log′ q′ c 2
+  pub input-done : Takes w n tape log q number v log′ q′ c → number ≡ 0 → OnFile Unit (setReg w AW v) f tt g → OnPorts (ports (In w port)) f ram rom tape log q number g ram log′ q′ c 2
   unfolding ports
   input-done t z s =
-      ports-end _ f ram rom tape log q g ram log′ q′ c 2 (t .most)
-      (λ h. seq-free _ (k .at (stateOf f h q) ram rom tape log) (seq-last _ (t .done z f h ram rom) (s .at (stateOf f h q′) ram rom tape log′)))
+      rw z
+      (ports-end _ f ram rom tape log q g ram log′ q′ c 2 (t .most)
+      (λ h. seq-free _ (k .at (stateOf f h q) ram rom tape log) (seq-last _ (t .done z f h ram rom) (s .at (stateOf f h q′) ram rom tape log′))))
 
   pub input-stop : Takes w n tape log q number v log′ q′ c → (number ≡ 0 → ⊥) → OnPorts (ports (In w port)) f ram rom tape log q number f ram log′ q′ c 2
   unfolding ports
@@ -42,27 +43,15 @@ module _ (w : Bool) (port : Port) (f g ram rom tape log log′ : List ℕ) (q q�
       ports-stop _ f ram rom tape log q number log′ q′ c 2 z (t .same z)
       (λ h. seq-then-stops _ (k .at (stateOf f h q) ram rom tape log) (seq-stops _ (t .stop z f h ram rom)))
 
-  pub output-done : v ≡ readReg w (fileOf f) AW → Gives w n v log q number log′ q′ c → number ≡ 0 → OnPorts (ports (Out w port)) f ram rom tape log q 0 f ram log′ q′ c 2
-  unfolding ports regValue
-  output-done e t z =
-      ports-end _ f ram rom tape log q f ram log′ q′ c 2 (t .most)
-      (λ h. seq-free _ (k .at (stateOf f h q) ram rom tape log) (seq-free _ (value h) (rw (← e) (t .done z f h ram rom tape))))
+  -- an output changes no register, whether it ends or refuses
+  pub output-is : v ≡ readReg w (fileOf f) AW → Gives w n v log q number log′ q′ c → OnPorts (ports (Out w port)) f ram rom tape log q number f ram log′ q′ c 2
+  unfolding ports
+  output-is e t = record {
+    most = t .most;
+    done = λ z h. seq-free _ (k .at (stateOf f h q) ram rom tape log) (seq-free _ (value h) (t .done z f h ram rom tape));
+    stop = λ z h. seq-then-stops _ (k .at (stateOf f h q) ram rom tape log) (seq-then-stops _ (value h) (t .stop z f h ram rom tape));
+    same = λ z. (refl, refl, t .same z .0, t .same z .2);
+  }
     where
-      value : (h : Bool) → Ends ℕ (regValue w AW) (world (stateOf f h q) ram rom tape log) (readReg w (fileOf f) AW) (world (stateOf f h q) ram rom tape log) nothing
-      value h = file-seq _ (file-registers {f = f}) file-pure .at (stateOf f h q) ram rom tape log
-
-  pub output-stop : v ≡ readReg w (fileOf f) AW → Gives w n v log q number log′ q′ c → (number ≡ 0 → ⊥) → OnPorts (ports (Out w port)) f ram rom tape log q number f ram log′ q′ c 2
-  unfolding ports regValue
-  output-stop e t z =
-      ports-stop _ f ram rom tape log q number log′ q′ c 2 z (t .same z)
-      (λ h. seq-then-stops _ (k .at (stateOf f h q) ram rom tape log) (seq-then-stops _ (value h) (rw (← e) (t .stop z f h ram rom tape))))
-    where
-      value : (h : Bool) → Ends ℕ (regValue w AW) (world (stateOf f h q) ram rom tape log) (readReg w (fileOf f) AW) (world (stateOf f h q) ram rom tape log) nothing
-      value h = file-seq _ (file-registers {f = f}) file-pure .at (stateOf f h q) ram rom tape log
-
-module _ (i : Io) (w : Bool) (port : Port) (f g ram rom tape log log′ : List ℕ) (q q′ : Progress) (number : ℕ) (c : Bus) where
-  pub at-in : i ≡ In w port → OnPorts (ports (In w port)) f ram rom tape log q number g ram log′ q′ c 2 → OnPorts (ports i) f ram rom tape log q number g ram log′ q′ c 2
-  at-in e h = rw e h
-
-  pub at-out : i ≡ Out w port → OnPorts (ports (Out w port)) f ram rom tape log q number g ram log′ q′ c 2 → OnPorts (ports i) f ram rom tape log q number g ram log′ q′ c 2
-  at-out e h = rw e h
+      value : (h : Bool) → Ends ℕ (regValue w AW) (world (stateOf f h q) ram rom tape log) v (world (stateOf f h q) ram rom tape log) nothing
+      value h = file-reg w AW e .at (stateOf f h q) ram rom tape log

@@ -1,6 +1,6 @@
 // IN and OUT.
+use ports::Ported;
 use registers::DW;
-use sheet::Bus;
 use sheet::Io;
 use sheet::Port;
 use sheet::Progress;
@@ -10,13 +10,6 @@ ghost use Rattle.sheet.specs.Ports as tree;
 ghost use Rattle.sheet.specs.declared.Io.the-variants as io;
 ghost use Rattle.sheet.specs.Contract.{OnFile};
 ghost use Rattle.ports.specs.Accesses.{OnPorts};
-
-// What a port instruction came to: the number, the places and the bus.
-pub struct Ported {
-    pub number: u8,
-    pub progress: Progress,
-    pub bus: Bus,
-}
 
 fn port_number(file: &[u16; 14], port: Port) -> u16
     ensures { λ r. ⌜ OnFile ℕ (tree.portNumber port) (now (file .entry)) r (now (file .entry)) ⌝ }
@@ -45,11 +38,6 @@ fn input(
     let b = t.bus;
     if t.number == 0 {
         registers::set_reg(word, file, 0, t.value);
-        return Ported {
-            number: 0,
-            progress: p,
-            bus: b,
-        };
     }
     Ported {
         number: t.number,
@@ -72,21 +60,7 @@ fn output(
 {
     let n = port_number(file, port);
     let v = registers::reg(word, file, 0);
-    let g = ports::give(word, log, q, n, v);
-    let p = g.progress;
-    let b = g.bus;
-    if g.number == 0 {
-        return Ported {
-            number: 0,
-            progress: p,
-            bus: b,
-        };
-    }
-    Ported {
-        number: g.number,
-        progress: p,
-        bus: b,
-    }
+    ports::give(word, log, q, n, v)
 }
 
 pub fn access(

@@ -12,6 +12,7 @@ use Rattle.sheet.specs.declared.Primitive.the-variants.{Inm, Outm}
 use Rattle.sheet.specs.declared.Repeat.{Repeat}
 use Rattle.sheet.specs.Registers.{CW, DW, IX, IY}
 use Rattle.sheet.specs.World.{stateOf}
+use Rattle.sheet.specs.Act.{pure}
 use Rattle.sheet.specs.Handler.{nothing, _⊕_}
 use Rattle.sheet.specs.Block.{sourceElement, setTarget, stepIndex, primitive, element, block}
 use Rattle.sheet.specs.Contract.{OnFile, OnMemory}
@@ -19,7 +20,6 @@ use Rattle.sheet.proofs.Rules.{seq, seq-last, seq-stops, seq-then-stops, ends-p
 use Rattle.ports.specs.Accesses.{Gives, Takes, OnPorts}
 use Rattle.ports.proofs.Told.{ports-end, ports-stop}
 use Rattle.elements.specs.declared.Due.{Due}
-use Rattle.elements.specs.declared.Due.the-variants.{Nothing, Single, Element}
 use Rattle.elements.specs.Due.{dueOf, dueTree}
 use Rattle.elements.specs.AfterElement.{afterElement}
 use Rattle.elements.proofs.DueLaws.{element-is, due-ends, due-stops}
@@ -56,11 +56,8 @@ module _ (w : Bool) (seg : ℕ) (f g ram ram′ rom tape log log′ : List ℕ) 
       (λ h. seq-then-stops _ (s .at (stateOf f h q) tape log) (seq-then-stops _ ends-registers (seq-stops _ (t .stop z f h ram rom tape))))
 
 module _ (i : Streaming) (w : Bool) (seg : ℕ) (f g ram ram′ rom tape log log′ : List ℕ) (q q′ : Progress) (number : ℕ) (c : Bus) where
-  pub at-inm : i ≡ streaming.Inm → OnPorts (primitive Inm w seg) f ram rom tape log q number g ram′ log′ q′ c 4 → OnPorts (primitive (primitiveOf i) w seg) f ram rom tape log q number g ram′ log′ q′ c 4
-  at-inm e h = rw e h
-
-  pub at-outm : i ≡ streaming.Outm → OnPorts (primitive Outm w seg) f ram rom tape log q number g ram′ log′ q′ c 4 → OnPorts (primitive (primitiveOf i) w seg) f ram rom tape log q number g ram′ log′ q′ c 4
-  at-outm e h = rw e h
+  pub kind-known : (j : Streaming) → i ≡ j → OnPorts (primitive (primitiveOf j) w seg) f ram rom tape log q number g ram′ log′ q′ c 4 → OnPorts (primitive (primitiveOf i) w seg) f ram rom tape log q number g ram′ log′ q′ c 4
+  kind-known j e h = rw e h
 
 module _ (k : Primitive) (w : Bool) (seg : ℕ) (r : Repeat) (start : ℕ) (f ram rom tape log : List ℕ) (q : Progress) where
   pub one-element : (i : Primitive) (g j ram′ log′ : List ℕ) (q′ : Progress) (number : ℕ) (c : Bus) → i ≡ k → OnPorts (primitive k w seg) f ram rom tape log q number g ram′ log′ q′ c 4 → number ≡ 0
@@ -74,15 +71,9 @@ module _ (k : Primitive) (w : Bool) (seg : ℕ) (r : Repeat) (start : ℕ) (f ra
   no-element g ram′ log′ q′ number c p z =
       rw (element-is k w seg r start) (record { most = p .most; done = λ y. absurd (z y); stop = λ y h. seq-stops _ (p .stop z h); same = p .same })
 
-  pub nothing-due : (d : Due) → d ≡ dueOf (getD f CW 0) r → d ≡ Nothing → OnPorts (block k w seg r start) f ram rom tape log q 0 f ram log q nothing 4
-  unfolding dueTree
-  nothing-due d e z = ports-end _ f ram rom tape log q f ram log q nothing 4 zero-le (λ h. due-ends k w seg r start d e (rw z ends-pure))
+  module _ (d e : Due) (g ram′ log′ : List ℕ) (q′ : Progress) (number : ℕ) (c : Bus) where
+    pub due-known : d ≡ dueOf (getD f CW 0) r → d ≡ e → OnPorts (dueTree e k w seg r start) f ram rom tape log q number g ram′ log′ q′ c 4 → OnPorts (block k w seg r start) f ram rom tape log q number g ram′ log′ q′ c 4
+    due-known y z p = record { most = p .most; done = λ x h. due-ends k w seg r start d y (rw z (p .done x h)); stop = λ x h. due-stops k w seg r start d y (rw z (p .stop x h)); same = p .same }
 
-  module _ (d : Due) (g ram′ log′ : List ℕ) (q′ : Progress) (number : ℕ) (c : Bus) (e : d ≡ dueOf (getD f CW 0) r) where
-    pub single-due : d ≡ Single → OnPorts (primitive k w seg) f ram rom tape log q number g ram′ log′ q′ c 4 → OnPorts (block k w seg r start) f ram rom tape log q number g ram′ log′ q′ c 4
-    unfolding dueTree
-    single-due z p = record { most = p .most; done = λ y h. due-ends k w seg r start d e (rw z (p .done y h)); stop = λ y h. due-stops k w seg r start d e (rw z (p .stop y h)); same = p .same }
-
-    pub element-due : d ≡ Element → OnPorts (element k w seg r start) f ram rom tape log q number g ram′ log′ q′ c 4 → OnPorts (block k w seg r start) f ram rom tape log q number g ram′ log′ q′ c 4
-    unfolding dueTree
-    element-due z p = record { most = p .most; done = λ y h. due-ends k w seg r start d e (rw z (p .done y h)); stop = λ y h. due-stops k w seg r start d e (rw z (p .stop y h)); same = p .same }
+pub nothing-done : (f ram rom tape log : List ℕ) (q : Progress) (top : ℕ) → OnPorts (pure tt) f ram rom tape log q 0 f ram log q nothing top
+nothing-done f ram rom tape log q top = ports-end _ f ram rom tape log q f ram log q nothing top zero-le (λ h. ends-pure)

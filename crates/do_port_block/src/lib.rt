@@ -1,6 +1,6 @@
 // INM and OUTM, single and repeated.
-use do_port::Ported;
 use elements::Due;
+use ports::Ported;
 use registers::CW;
 use registers::DW;
 use sheet::Bus;
@@ -132,7 +132,6 @@ fn element(
     let k = named(kind);
     if r.number == 0 {
         elements::finish_element(file, k, repeat, start);
-        return r;
     }
     r
 }

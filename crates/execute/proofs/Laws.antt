@@ -50,7 +50,7 @@ use Rattle.ports.proofs.Told.{ports-end}
 use Rattle.do_block.specs.declared.Portless.{Portless}
 use Rattle.do_block.specs.Portless.{primitiveOf}
 use Rattle.do_control.specs.Controls as do-control
-use Rattle.do_port.specs.declared.Ported.{Ported}
+use Rattle.ports.specs.declared.Ported.{Ported}
 use Rattle.execute.specs.declared.Performed.{Performed}
 use Rattle.execute.specs.Performs.{Performs}
 

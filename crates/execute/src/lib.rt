@@ -1,7 +1,7 @@
 // Every instruction's operation, by its group.
 use do_block::Portless;
-use do_port::Ported;
 use do_port_block::Streaming;
+use ports::Ported;
 use sheet::Bus;
 use sheet::Instr;
 use sheet::Primitive;

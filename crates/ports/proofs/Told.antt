@@ -19,3 +19,7 @@ module _ (p : Act Unit) (f ram rom tape log : List ℕ) (q : Progress) where
   pub ports-stop : (number : ℕ) (log′ : List ℕ) (q′ : Progress) (n : Bus) (top : ℕ) → (number ≡ 0 → ⊥) → (log′ ≡ log) × (q′ ≡ q) × (n ≡ nothing)
       → ((h : Bool) → Stops Unit p (world (stateOf f h q) ram rom tape log) number) → OnPorts p f ram rom tape log q number f ram log′ q′ n top
   ports-stop number log′ q′ n top z s e = record { most = rw (s .2) zero-le; done = λ y. absurd (z y); stop = λ y. e; same = λ y. (refl, refl, s .0, s .2) }
+
+pub ports-known : {I : Type 0} (tree : I → Act Unit) {i j : I} {f ram rom tape log : List ℕ} {q : Progress} {number : ℕ} {g ram′ log′ : List ℕ} {q′ : Progress} {n : Bus} {top : ℕ}
+    → i ≡ j → OnPorts (tree j) f ram rom tape log q number g ram′ log′ q′ n top → OnPorts (tree i) f ram rom tape log q number g ram′ log′ q′ n top
+ports-known tree e h = rw e h

@@ -1,13 +1,8 @@
-use Rattle.do_port.proofs.Laws.{at-in, at-out}
+use Rattle.sheet.specs.Ports.{ports}
+use Rattle.ports.proofs.Told.{ports-known}
 use borrow.Author.Needs.{needs}
 use Rattle.do_port.proofs.access.Statement.{statement}
 use Rattle.do_port.proofs.access.Tie as tie
-
-returns : tie.Need-returns
-returns c = search (at-in, needs)
-
-returns-2 : tie.Need-returns-2
-returns-2 c = search (at-out, needs)
 
 pub access-spec : {M : Type 1} → statement M
 access-spec =
@@ -18,6 +13,6 @@ access-spec =
     (λ c. search needs)
     (λ c κs. search needs)
     (λ c. search needs)
-    returns
+    (λ c. search (ports-known ports, needs))
     (λ c. search needs)
-    returns-2)
+    (λ c. search (ports-known ports, needs)))
