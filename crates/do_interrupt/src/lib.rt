@@ -5,6 +5,7 @@ use registers::PSW;
 use sheet::Address;
 use sheet::Bus;
 use sheet::Interrupt;
+use traps::Worked;
 ghost use mathlib.Core.Path.{_≡_};
 ghost use mathlib.Core.Bool.{Bool};
 ghost use lib.Signed.{ltZ};
@@ -13,42 +14,36 @@ ghost use Rattle.sheet.specs.Interrupts as tree;
 ghost use Rattle.sheet.specs.Execute.{untrapped};
 ghost use Rattle.sheet.specs.Contract.{OnMemory};
 
-// Whether a trap was taken, and what that came to on the bus.
-pub struct Taken {
-    pub trapped: bool,
-    pub bus: Bus,
-}
-
-fn brk(file: &mut [u16; 14], ram: &mut [u8], rom: &[u8], v: u8) -> Taken
+fn brk(file: &mut [u16; 14], ram: &mut [u8], rom: &[u8], v: u8) -> Worked
     ensures { λ r. ⌜ OnMemory Bool (tree.brk v) (now (file .entry)) (now (ram .entry)) (now (rom .entry)) (r .trapped) (now (file .exit)) (now (ram .exit)) (r .bus) 8 ⌝ }
 {
     let b = traps::trap(file, ram, rom, v);
-    Taken {
+    Worked {
         trapped: true,
         bus: b,
     }
 }
 
-fn trap_if(file: &mut [u16; 14], ram: &mut [u8], rom: &[u8], b: bool, v: u8) -> Taken
+fn trap_if(file: &mut [u16; 14], ram: &mut [u8], rom: &[u8], b: bool, v: u8) -> Worked
     ensures { λ r. ⌜ OnMemory Bool (tree.trapIf b v) (now (file .entry)) (now (ram .entry)) (now (rom .entry)) (r .trapped) (now (file .exit)) (now (ram .exit)) (r .bus) 8 ⌝ }
 {
     if b {
         return brk(file, ram, rom, v);
     }
-    Taken {
+    Worked {
         trapped: false,
         bus: Bus { cycles: 0 },
     }
 }
 
-fn brkv(file: &mut [u16; 14], ram: &mut [u8], rom: &[u8]) -> Taken
+fn brkv(file: &mut [u16; 14], ram: &mut [u8], rom: &[u8]) -> Worked
     ensures { λ r. ⌜ OnMemory Bool tree.brkv (now (file .entry)) (now (ram .entry)) (now (rom .entry)) (r .trapped) (now (file .exit)) (now (ram .exit)) (r .bus) 8 ⌝ }
 {
     let b = flags::v(file[PSW]);
     trap_if(file, ram, rom, b, 4)
 }
 
-fn reti(file: &mut [u16; 14], ram: &[u8], rom: &[u8]) -> Taken
+fn reti(file: &mut [u16; 14], ram: &[u8], rom: &[u8]) -> Worked
     ensures { λ r. ⌜ OnMemory Bool (untrapped tree.reti) (now (file .entry)) (now (ram .entry)) (now (rom .entry)) (r .trapped) (now (file .exit)) (now (ram .entry)) (r .bus) 6 ⌝ }
 {
     let pc = traps::pop(file, ram, rom);
@@ -57,7 +52,7 @@ fn reti(file: &mut [u16; 14], ram: &[u8], rom: &[u8]) -> Taken
     file[PC] = pc.value;
     file[PS] = ps.value;
     file[PSW] = psw::restore(x.value);
-    Taken {
+    Worked {
         trapped: false,
         bus: Bus {
             cycles: pc.bus.cycles + (ps.bus.cycles + x.bus.cycles),
@@ -78,14 +73,14 @@ fn outside(v: u16, low: u16, high: u16) -> bool
     less(v, low) | less(high, v)
 }
 
-fn chkind(file: &mut [u16; 14], ram: &mut [u8], rom: &[u8], reg: u8, from: Address) -> Taken
+fn chkind(file: &mut [u16; 14], ram: &mut [u8], rom: &[u8], reg: u8, from: Address) -> Worked
     ensures { λ r. ⌜ OnMemory Bool (tree.chkind reg from) (now (file .entry)) (now (ram .entry)) (now (rom .entry)) (r .trapped) (now (file .exit)) (now (ram .exit)) (r .bus) 12 ⌝ }
 {
     let p = operand::pair_at(file, ram, rom, from);
     let v = registers::reg(true, file, reg);
     let b = outside(v, p.low, p.high);
     let t = trap_if(file, ram, rom, b, 5);
-    Taken {
+    Worked {
         trapped: t.trapped,
         bus: Bus {
             cycles: p.bus.cycles + t.bus.cycles,
@@ -93,7 +88,7 @@ fn chkind(file: &mut [u16; 14], ram: &mut [u8], rom: &[u8], reg: u8, from: Addre
     }
 }
 
-pub fn interrupt(file: &mut [u16; 14], ram: &mut [u8], rom: &[u8], i: Interrupt) -> Taken
+pub fn interrupt(file: &mut [u16; 14], ram: &mut [u8], rom: &[u8], i: Interrupt) -> Worked
     ensures { λ r. ⌜ OnMemory Bool (tree.interrupts i) (now (file .entry)) (now (ram .entry)) (now (rom .entry)) (r .trapped) (now (file .exit)) (now (ram .exit)) (r .bus) 12 ⌝ }
 {
     match i {

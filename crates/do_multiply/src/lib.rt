@@ -7,6 +7,7 @@ use sheet::Divided;
 use sheet::Multiply;
 use sheet::Place;
 use sheet::Product;
+use traps::Worked;
 ghost use mathlib.Core.Path.{_≡_};
 ghost use mathlib.Core.Bool.{Bool};
 ghost use Rattle.sheet.specs.Registers.{fileOf};
@@ -14,12 +15,6 @@ ghost use Rattle.sheet.specs.Multiply as sheet;
 ghost use Rattle.sheet.specs.Execute as tree;
 ghost use Rattle.sheet.specs.Contract.{OnFile, OnMemory};
 ghost use Rattle.do_multiply.specs.Within.{Held, Within};
-
-// Whether an instruction took a trap itself, and its accesses.
-pub struct Worked {
-    pub trapped: bool,
-    pub bus: Bus,
-}
 
 // A product of bytes goes to AW, one of words to DW and AW.
 fn set_product(file: &mut [u16; 14], word: bool, x: u32)

@@ -79,6 +79,12 @@ pub fn vector(ram: &[u8], rom: &[u8], v: u8) -> Target
     }
 }
 
+// Whether an instruction took a trap itself, and its accesses.
+pub struct Worked {
+    pub trapped: bool,
+    pub bus: Bus,
+}
+
 pub fn trap(file: &mut [u16; 14], ram: &mut [u8], rom: &[u8], v: u8) -> Bus
     ensures { λ r. ⌜ OnMemory Unit (tree.trap v) (now (file .entry)) (now (ram .entry)) (now (rom .entry)) tt (now (file .exit)) (now (ram .exit)) r 8 ⌝ }
 {
