@@ -4,11 +4,12 @@ use mathlib.Core.Bool.{Bool, true, false}
 use Prim.Native.Nat.{ℕ, zero, suc, _+_, _-_, _*_, _≤_, _<_}
 use native.Mathlib.Nat.{add-zero}
 use native.Mathlib.Omega.{arith}
-use borrow.Author.Tests.{ltb-true, ltb-false, lt-ltb, le-ltb, le-leb, lt-leb}
+use borrow.Author.Tests.{ltb-true, ltb-false, le-ltb, le-leb, lt-leb}
 use lib.Dec.{leb, ltb}
 use lib.IntN.{ℤ, pos, negsuc, negℤ, _+ℤ_, _-ℤ_, +ℤ-assoc, +ℤ-comm, negℤ-+ℤ, negℤ-negℤ}
 use lib.Signed.{mag}
 use Rattle.sheet.specs.Width.{pick, signedOf}
+use Rattle.signed.proofs.ReadBack.{below-zero}
 
 pub dif-add : (a j b k : ℕ) → (pos a -ℤ pos j) +ℤ (pos b -ℤ pos k) ≡ pos (a + b) -ℤ pos (j + k)
 dif-add a j b k =
@@ -30,10 +31,6 @@ up : (n k : ℕ) → k ≤ n → pos n -ℤ pos k ≡ pos (n - k)
 up n zero h = ap pos (omega arith)
 up n (suc k) h = rw (le-ltb n (suc k) h)
 
-down : (n k : ℕ) → n < k → pos n -ℤ pos k ≡ negsuc (k - suc n)
-down n zero h = absurd (omega arith)
-down n (suc k) h = rw (lt-ltb n (suc k) h)
-
 pub dif-same : (n k m l : ℕ) → n + l ≡ m + k → pos n -ℤ pos k ≡ pos m -ℤ pos l
 dif-same n k m l e = go (ltb n k) refl
   where
@@ -41,7 +38,7 @@ dif-same n k m l e = go (ltb n k) refl
     go true t =
         let h = ltb-true n k t in
         let same : k - suc n ≡ l - suc m = omega arith in
-        down n k h ∙ ap negsuc same ∙ sym (down m l (omega arith))
+        below-zero n k h ∙ ap negsuc same ∙ sym (below-zero m l (omega arith))
     go false t =
         let h = ltb-false n k t in
         let same : n - k ≡ m - l = omega arith in
@@ -54,13 +51,13 @@ module _ (h n k : ℕ) where
   stays-up p q = rw (up n k p) (lt-leb h (n - k) (omega arith))
 
   pub stays-down : n < k → k ≤ n + h → leb h (mag (pos n -ℤ pos k)) ≡ false
-  stays-down p q = rw (down n k p) (lt-leb h (k - suc n) (omega arith))
+  stays-down p q = rw (below-zero n k p) (lt-leb h (k - suc n) (omega arith))
 
   pub leaves-up : k + h ≤ n → leb h (mag (pos n -ℤ pos k)) ≡ true
   leaves-up p = rw (up n k (omega arith)) (le-leb h (n - k) (omega arith))
 
   pub leaves-down : n + h < k → leb h (mag (pos n -ℤ pos k)) ≡ true
-  leaves-down p = rw (down n k (omega arith)) (le-leb h (k - suc n) (omega arith))
+  leaves-down p = rw (below-zero n k (omega arith)) (le-leb h (k - suc n) (omega arith))
 
 -- what x stands for: 2 h less where its sign is set
 pub signed-dif : (h x : ℕ) → signedOf h x ≡ pos x -ℤ pos (pick (leb h x) (2 * h) 0)

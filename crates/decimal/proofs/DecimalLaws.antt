@@ -9,6 +9,7 @@ use Rattle.sheet.specs.declared.Digits.{Digits}
 use Rattle.sheet.specs.Width.{wrapOf, pick}
 use Rattle.sheet.specs.Psw.{bit}
 use Rattle.sheet.specs.Decimal.{adjusted, digits, moved, plain}
+use Rattle.sheet.proofs.PswLaws.{bit-le}
 
 -- a byte with AC and CY
 abbrev pub byteOf : ℕ → Bool → Bool → Digits
@@ -17,10 +18,6 @@ byteOf x ac cy = record { value = x; ac = ac; cy = cy }
 -- a number below 100 as two digits
 abbrev pub packed : ℕ → ℕ
 packed n = n / 10 * 16 + n % 10
-
-bit-le : (c : Bool) → bit c ≤ 1
-bit-le true = lit≤ tt
-bit-le false = lit≤ tt
 
 or-true : (b : Bool) → (b || true) ≡ true
 or-true true = refl
