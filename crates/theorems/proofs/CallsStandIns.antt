@@ -11,7 +11,6 @@ use Rattle.sheet.specs.declared.State.{State}
 use Rattle.sheet.specs.declared.Bus.{Bus}
 use Rattle.sheet.specs.declared.Entry.{Entry}
 use Rattle.sheet.specs.declared.Entry.the-variants as entry
-use Rattle.sheet.specs.Width.{wrapOf}
 use Rattle.sheet.specs.Psw.{settled}
 use Rattle.sheet.specs.Registers.{AW, SP}
 use Rattle.sheet.specs.Memory.{byteAt, readMem, writeMem, busCycles}
@@ -111,7 +110,7 @@ module _ (engine : World → Report) (meets : MeetsStep engine) where
 -- ---- an interrupt call
 
 pub takes-it : interruptReport 0 false callable ≡ report 0 entered (record { cycles = 5 })
-unfolding interruptReport interrupt interruptBy fits sound interrupting trap save push _>>=_ runBy tally wrapOf settled readMem writeMem byteAt busCycles
+unfolding interruptReport interrupt interruptBy fits sound interrupting trap save push _>>=_ runBy tally settled readMem writeMem byteAt busCycles
 takes-it = refl
 
 pub is-masked : interruptReport 0 true masked ≡ report 7 masked nothing

@@ -10,7 +10,6 @@ use lib.ListN.{replicate, getD}
 use Rattle.sheet.specs.declared.Primitive.the-variants.{Movbk}
 use Rattle.sheet.specs.declared.Repeat.the-variants.{WhileZ}
 use Rattle.sheet.specs.declared.Instr.the-variants.{Blocks}
-use Rattle.sheet.specs.Width.{wrapOf}
 use Rattle.sheet.specs.Psw.{settled}
 use Rattle.sheet.specs.Registers.{CW, PC, inPs}
 use Rattle.sheet.specs.Memory.{byteAt, readMem, writeMem, busCycles}
@@ -76,7 +75,7 @@ back = machine (words 2 64 81 85 64 0xf202) 3 (memory pushed (1 ∷ 0 ∷ 0 ∷ 
 
 -- whoever unfolds this unfolds what these steps need of the definition
 unfoldable pub opened : ℕ
-unfolding wrapOf settled byteAt readMem writeMem act._>>=_ runBy run push pop save trap reti interrupts control stepIndex sourceElement targetElement setTarget primitive goesOnAfter element repeated block untrapped operation execute reading._>>=_ scan prefixOf lookUp afterPrefix prefixed instruction fits sound interrupting singleStep stepping counted decoded awake stepBy step interruptBy interrupt
+unfolding settled byteAt readMem writeMem act._>>=_ runBy run push pop save trap reti interrupts control stepIndex sourceElement targetElement setTarget primitive goesOnAfter element repeated block untrapped operation execute reading._>>=_ scan prefixOf lookUp afterPrefix prefixed instruction fits sound interrupting singleStep stepping counted decoded awake stepBy step interruptBy interrupt
 opened = 0
 
 pub first : step start ≡ done tt after-one (happened (step start))
