@@ -11,10 +11,9 @@ use Rattle.sheet.specs.declared.Conditional.the-variants.{If, Dbnzne, Dbnze, Db
 use Rattle.sheet.specs.Width.{sub16}
 use Rattle.sheet.specs.Psw.{CY, P, Z, S, OV, flagOf}
 use Rattle.sheet.specs.Registers.{CW, PSW}
-use Rattle.sheet.specs.Branch.{jump, lessOrEqual, condition, jumpIf, branchIf, countDown, dbnzWhile, dbnz, bcwz, conditional}
+use Rattle.sheet.specs.Branch.{jump, lessOrEqual, asked, condition, jumpIf, branchIf, countDown, dbnzWhile, dbnz, bcwz, conditional}
 use Rattle.sheet.specs.Contract.{OnFile}
 use Rattle.sheet.proofs.Lifted.{file-seq, file-pure, file-registers, file-set, file-flag, file-true, file-false}
-use Rattle.do_conditional.specs.Asked.{asked}
 
 -- ---- conditions, by n / 2 % 8
 
@@ -67,7 +66,7 @@ module _ (f : List ℕ) (n : ℕ) where
       (file-seq _ (file-seq _ (file-flag S) (file-seq _ (file-flag OV) file-pure)) (file-seq _ (file-flag Z) file-pure))
 
   pub condition-is : (b : Bool) → OnFile Bool (asked n) f b f → OnFile Bool (condition n) f (not (Bool·beq b (eqb (n % 2) 1))) f
-  unfolding condition asked
+  unfolding condition
   condition-is b p = file-seq _ p file-pure
 
 -- ---- instructions

@@ -3,15 +3,15 @@ use Prim.Native.Nat.{ℕ, _+_, _*_, _/_, _%_}
 use mathlib.Core.Path.{_≡_, refl}
 use mathlib.Core.Bool.{Bool, true, false}
 use mathlib.Core.List.{List}
-use lib.Dec.{ltb}
 use lib.ListN.{getD, set}
 use Rattle.sheet.specs.declared.Flagged.{Flagged}
 use Rattle.sheet.specs.declared.Convert.{Convert}
 use Rattle.sheet.specs.declared.Convert.the-variants.{Adjba, Adj4a, Adjbs, Adj4s, Cvtbd, Cvtdb, Cvtbw, Cvtwl}
-use Rattle.sheet.specs.Width.{pick, extend}
+use Rattle.sheet.specs.Width.{pick, signOf, extend}
 use Rattle.sheet.specs.Psw.{AC, CY, flagOf, column}
 use Rattle.sheet.specs.Registers.{AW, DW, PSW, AL, fileOf, readReg}
-use Rattle.sheet.specs.Operand.{regValue, setReg}
+use Rattle.sheet.specs.Operand.{deposit, regValue, setReg}
+use Rattle.sheet.specs.Arithmetic.{finish}
 use Rattle.sheet.specs.Decimal.{packedResult, unpackedResult, adj4, adjb}
 use Rattle.sheet.specs.Convert.{converted, cvtbd, cvtdb, cvtbw, cvtwl}
 use Rattle.sheet.specs.Convert as sheet
@@ -22,7 +22,7 @@ use Rattle.sheet.proofs.Lifted.{file-seq, file-pure, file-registers, file-set, 
 module _ (f : List ℕ) where
   pub adj4-is : (sub : Bool) (al : ℕ) (x : Flagged) (g : List ℕ) → al ≡ readReg false (fileOf f) AL → x ≡ flagged (packedResult sub al (flagOf (getD f PSW 0) AC) (flagOf (getD f PSW 0) CY)) (getD f PSW 0)
       → OnFile Unit (setReg false AL (x .value)) (set f PSW (x .psw)) tt g → OnFile Unit (adj4 sub) f tt g
-  unfolding adj4 regValue flagged
+  unfolding adj4 finish deposit regValue flagged
   adj4-is sub al x g e q h =
       let r = packedResult sub al (flagOf (getD f PSW 0) AC) (flagOf (getD f PSW 0) CY) in
       file-seq _ (file-seq _ file-registers file-pure) (rw (← e) (file-seq _ (file-flag AC) (file-seq _ (file-flag CY) (file-seq _ (file-flags (column (r .column)) refl) (rw q at h)))))
@@ -55,9 +55,9 @@ module _ (f : List ℕ) where
   unfolding cvtbw regValue readReg
   cvtbw-is x q = file-seq _ (file-seq _ file-registers file-pure) (rw (← q) (file-set AW x))
 
-  pub cvtwl-is : (x : ℕ) → x ≡ pick (ltb (getD f AW 0) 32768) 0 65535 → OnFile Unit cvtwl f tt (set f DW x)
+  pub cvtwl-is : (x : ℕ) → x ≡ pick (signOf true (getD f AW 0)) 65535 0 → OnFile Unit cvtwl f tt (set f DW x)
   unfolding cvtwl
-  cvtwl-is x q = file-seq _ file-registers (rw q (file-set DW (pick (ltb (getD f AW 0) 32768) 0 65535)))
+  cvtwl-is x q = file-seq _ file-registers (rw q (file-set DW (pick (signOf true (getD f AW 0)) 65535 0)))
 
 -- ---- the group
 

@@ -20,9 +20,8 @@ use Rattle.sheet.specs.Psw.{OV, flagOf, pack, restored, settled}
 use Rattle.sheet.specs.Registers.{PS, PC, PSW, fileOf, readReg}
 use Rattle.sheet.specs.Handler.{nothing, _⊕_}
 use Rattle.sheet.specs.Operand.{regValue, pairAt}
-use Rattle.sheet.specs.Traps.{pop, trap}
+use Rattle.sheet.specs.Traps.{pop, trap, untrapped}
 use Rattle.sheet.specs.Interrupts.{brk, trapIf, brkv, reti, outside, chkind, interrupts}
-use Rattle.sheet.specs.Execute.{untrapped}
 use Rattle.sheet.specs.Contract.{OnMemory}
 use Rattle.sheet.proofs.Lifted.{file-seq, file-pure, file-registers, file-set, file-flag, file-flags, memory-seq, memory-free, memory-last, memory-at-most, memory-true, memory-false, on-memory}
 use Rattle.signed.proofs.ReadBack.{read-pos, read-negsuc}
@@ -110,7 +109,7 @@ module _ (i : Interrupt) (f g ram ram′ rom : List ℕ) (t : Bool) (n : Bus) wh
   at-brkv e h = rw e (memory-at-most {t = 8} 12 (lit≤ tt) h)
 
   pub at-reti : i ≡ Reti → OnMemory Bool (untrapped reti) f ram rom t g ram′ n 6 → OnMemory Bool (interrupts i) f ram rom t g ram′ n 12
-  unfolding interrupts untrapped
+  unfolding interrupts
   at-reti e h = rw e (memory-at-most {t = 6} 12 (lit≤ tt) h)
 
   pub at-chkind : (reg : ℕ) (a : Address) → i ≡ Chkind reg a → OnMemory Bool (chkind reg a) f ram rom t g ram′ n 12 → OnMemory Bool (interrupts i) f ram rom t g ram′ n 12

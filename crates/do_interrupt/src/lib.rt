@@ -10,7 +10,7 @@ ghost use mathlib.Core.Bool.{Bool};
 ghost use lib.Signed.{ltZ};
 ghost use Rattle.sheet.specs.Width.{signedOf};
 ghost use Rattle.sheet.specs.Interrupts as tree;
-ghost use Rattle.sheet.specs.Execute.{untrapped};
+ghost use Rattle.sheet.specs.Traps.{untrapped};
 ghost use Rattle.sheet.specs.Contract.{OnMemory};
 
 // Whether a trap was taken, and what that came to on the bus.
