@@ -3,12 +3,14 @@ use mathlib.Core.Path.{_≡_, sym, ap}
 use mathlib.Core.Bool.{Bool, true, false}
 use Prim.Native.Nat.{ℕ, suc, _+_, _*_, _/_, _%_, _-_, _^_, _≤_, _<_}
 use native.Mathlib.Nat.{add-assoc, zero-mul, one-mul, suc-mul, add-mul, mul-assoc, pow-succ', mod-lt, div-lt-iff-lt-mul, mul-le-mul-right}
+use native.Mathlib.Numerals.{add-one}
 use native.Mathlib.Omega.{arith}
 use borrow.Author.Tests.{eq-eqb, ne-eqb}
 use lib.Dec.{eqb}
 use lib.Pow.{pow-pos, pow-add, high, low}
 use Rattle.sheet.specs.Width.{pick, modOf}
 use Rattle.sheet.specs.Psw.{bit}
+use Rattle.sheet.specs.Fields.{replaced}
 use Rattle.sheet.specs.Bits.{bitNumber, bitAt, withBit}
 
 pub number-le : (w : Bool) (n : ℕ) → bitNumber w n ≤ pick w 15 7
@@ -29,10 +31,15 @@ place-le : (b : Bool) (d : ℕ) → pick b d 0 ≤ d
 place-le true d = omega arith
 place-le false d = omega arith
 
+-- what lies above the bit, the bit, and what lies below it
+with-bit-is : (x n : ℕ) (b : Bool) → withBit x n b ≡ x / (2 * 2 ^ n) * (2 * 2 ^ n) + bit b * 2 ^ n + x % 2 ^ n
+unfolding withBit replaced
+with-bit-is x n true = rw (add-one n, pow-succ' 2 n)
+with-bit-is x n false = rw (add-one n, pow-succ' 2 n)
+
 -- the parts of an operand with the bit set anew, where the bit's weight is d and o the bit at its place
 pub set-parts : (x n d o : ℕ) (b : Bool) → d ≡ 2 ^ n → o ≡ pick b d 0 → x / (2 * d) * (2 * d) + o + x % d ≡ withBit x n b
-unfolding withBit
-set-parts x n d o b e f = rw (f, place-bit b d, e)
+set-parts x n d o b e f = rw (with-bit-is x n b, f, place-bit b d, e)
 
 -- ---- the width is kept
 
@@ -46,9 +53,8 @@ whole : (m n : ℕ) → n ≤ m → 2 ^ (m - n) * (2 * 2 ^ n) ≡ 2 ^ suc m
 whole m n h = rw (← pow-succ' 2 n, ← pow-add 2 (m - n) (suc n)) (ap (λ (e : ℕ). 2 ^ e) (omega arith))
 
 pub with-bit-lt : (m n x : ℕ) (b : Bool) → n ≤ m → x < 2 ^ suc m → withBit x n b < 2 ^ suc m
-unfolding withBit
 with-bit-lt m n x b h l =
-    rw (← place-bit b (2 ^ n))
+    rw (with-bit-is x n b, ← place-bit b (2 ^ n))
     (omega (arith, whole m n h, place-le b (2 ^ n), pow-pos n, mod-lt x (pow-pos n), above-le x (2 ^ n) (2 ^ (m - n)) (pow-pos n) (rw (whole m n h) l)))
 
 pub with-bit-keeps : (w : Bool) (x n : ℕ) (b : Bool) → x < modOf w → withBit x (bitNumber w n) b < modOf w
@@ -59,8 +65,7 @@ with-bit-keeps false x n b h = with-bit-lt 7 (bitNumber false n) x b (number-le 
 
 -- the bit and what lies above it, over what lies below
 parts : (x n : ℕ) (b : Bool) → withBit x n b ≡ (x / (2 * 2 ^ n) * 2 + bit b) * 2 ^ n + x % 2 ^ n
-unfolding withBit
-parts x n b = rw (add-mul, mul-assoc)
+parts x n b = rw (with-bit-is x n b, add-mul, mul-assoc)
 
 pub with-bit-below : (x n : ℕ) (b : Bool) → withBit x n b % 2 ^ n ≡ x % 2 ^ n
 with-bit-below x n b = rw (parts x n b) (low (x / (2 * 2 ^ n) * 2 + bit b) n (mod-lt x (pow-pos n)))
@@ -75,7 +80,6 @@ with-bit-at x n b =
     rw (parts x n b, high (x / (2 * 2 ^ n) * 2 + bit b) n (mod-lt x (pow-pos n))) (reads (x / (2 * 2 ^ n)) b)
 
 pub with-bit-above : (x n : ℕ) (b : Bool) → withBit x n b / 2 ^ suc n ≡ x / 2 ^ suc n
-unfolding withBit
 with-bit-above x n b =
     let small : bit b * 2 ^ n + x % 2 ^ n < 2 ^ suc n = rw (pow-succ' 2 n, ← place-bit b (2 ^ n)) (omega (arith, place-le b (2 ^ n), mod-lt x (pow-pos n))) in
-    rw (← pow-succ' 2 n, add-assoc) (high (x / 2 ^ suc n) (suc n) small)
+    rw (with-bit-is x n b, ← pow-succ' 2 n, add-assoc) (high (x / 2 ^ suc n) (suc n) small)

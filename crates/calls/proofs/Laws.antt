@@ -14,10 +14,10 @@ use Rattle.sheet.specs.Registers.{PSW}
 use Rattle.sheet.specs.World.{World, world, pswOf}
 use Rattle.sheet.specs.Handler.{run, nothing}
 use Rattle.sheet.specs.Traps.{trap}
-use Rattle.sheet.specs.Step.{fits, sound, interrupting, interruptBy, interrupt, interruptReport}
+use Rattle.sheet.specs.Step.{placesGood, fits, sound, interrupting, interruptBy, interrupt, interruptReport}
 use Rattle.sheet.specs.Contract.{exec, OnMemory, report, reportOf}
 use Rattle.sheet.proofs.Rules.{seq-last, ends-halted}
-use Rattle.calls.specs.Calls.{checkNumber, placesGood, Accepts, Interrupts}
+use Rattle.calls.specs.Calls.{checkNumber, Accepts, Interrupts}
 
 module _ (s : State) (ram rom tape log : List ℕ) where
   -- RAM alone is too long, or both together

@@ -1,25 +1,17 @@
 -- What the calls promise.
 use Prim.Native.Nat.{ℕ, _≤_}
-use mathlib.Core.Bool.{Bool, _&&_}
+use mathlib.Core.Bool.{Bool}
 use mathlib.Core.List.{List}
 use mathlib.Core.Path.{_≡_}
-use lib.Dec.{leb}
-use lib.ListN.{length}
 use Rattle.sheet.specs.declared.Bus.{Bus}
 use Rattle.sheet.specs.declared.State.{State}
-use Rattle.sheet.specs.Width.{pick}
-use Rattle.sheet.specs.Log.{rule}
 use Rattle.sheet.specs.World.{World, world}
 use Rattle.sheet.specs.Contract.{Ends, report}
-use Rattle.sheet.specs.Step.{fits, sound, interrupting, interruptReport}
+use Rattle.sheet.specs.Step.{checked, interrupting, interruptReport}
 
 -- the refusal that every call checks first, or 0
 abbrev pub checkNumber : World → ℕ
-checkNumber w = pick (fits w) (pick (sound w) 0 2) 1
-
--- the part of number 2 that is not PSW's
-abbrev pub placesGood : State → List ℕ → List ℕ → Bool
-placesGood s tape log = leb (s .tape) (length tape) && (leb (s .log) (length log) && leb (s .count) (rule .ceiling))
+checkNumber w = checked w (λ n. n) 0
 
 -- an interrupt that is accepted
 pub record Accepts (vector : ℕ) (s : State) (ram rom : List ℕ) (number : ℕ) (s′ : State) (ram′ : List ℕ) (n : Bus) : Type 0 where

@@ -7,7 +7,7 @@ ghost use mathlib.Core.Bool.{Bool};
 ghost use Prim.Native.Nat.{ℕ};
 ghost use Rattle.sheet.specs.World.{world};
 ghost use Rattle.sheet.specs.Step as definition;
-ghost use Rattle.calls.specs.Calls.{checkNumber, placesGood, Accepts, Interrupts};
+ghost use Rattle.calls.specs.Calls.{checkNumber, Accepts, Interrupts};
 
 // What a call answers: the number, the state and the bus.
 pub struct Answer {
@@ -31,7 +31,7 @@ pub fn reset() -> State
 
 // Places and count.
 fn places_good(s: State, tape: &[u8], log: &[u8]) -> bool
-    ensures { λ r. ⌜ r ≡ placesGood s (now (tape .entry)) (now (log .entry)) ⌝ }
+    ensures { λ r. ⌜ r ≡ definition.placesGood s (now (tape .entry)) (now (log .entry)) ⌝ }
 {
     (s.tape <= tape.len()) & ((s.log <= log.len()) & (s.count <= 2097151))
 }

@@ -24,16 +24,16 @@ use Rattle.answers.proofs.DecodesLaws.{decodes-seq, decodes-refused, decodes-al
 use Rattle.answers.proofs.CodeLaws.{not-both}
 use Rattle.answers.proofs.FollowLaws.{decodes-known}
 use Rattle.places.specs.Operands.{Operands}
-use Rattle.places.proofs.OperandsLaws.{plain-reads, plain-refuses}
+use Rattle.places.proofs.OperandsLaws.{plain-reads, plain-refuses, of-plain, not-plain}
 
 module _ {p : Prefixes} {src : ℕ → ℕ} {i reg j : ℕ} {a : Place} (o : Operands p src i reg a j) (op : Bit) (n : ℕ) where
   pub in-cl : {r : Decoded} → reg ≡ 0 → r ≡ Known (Bits op (W n) a InCl) j → Decodes (bitInCl p op n) src i r
   unfolding bitInCl
-  in-cl h e = decodes-seq _ (plain-reads o h) (decodes-known e)
+  in-cl h e = of-plain o _ h e
 
   pub not-in-cl : (reg ≡ 0 → ⊥) → Decodes (bitInCl p op n) src i (Unknown 3)
   unfolding bitInCl
-  not-in-cl h = decodes-refused _ (plain-refuses o h)
+  not-in-cl h = not-plain o _ h
 
   pub given : {v k : ℕ} {r : Decoded} → reg ≡ 0 → Reads ℕ byte src j v k → r ≡ Known (Bits op (W n) a (Given v)) k → Decodes (bitGiven p op n) src i r
   unfolding bitGiven

@@ -12,7 +12,7 @@ ghost use Rattle.sheet.specs.declared.Decimal.the-variants.{Rol4, Ror4};
 ghost use Rattle.sheet.specs.declared.Field.the-variants.{Ins, Ext};
 ghost use Rattle.sheet.specs.Reading.{got};
 ghost use Rattle.sheet.specs.Step.{codeByte};
-ghost use Rattle.sheet.specs.SecondByte.{bitInCl, bitGiven, digit, fieldInRegister, fieldGiven, secondBytes};
+ghost use Rattle.sheet.specs.SecondByte.{withPlain, bitInCl, bitGiven, fieldInRegister, fieldGiven, secondBytes};
 ghost use Rattle.answers.specs.Answer.{Decodes, Names};
 
 // The number of DS0.
@@ -95,7 +95,7 @@ fn codes18(ram: &[u8], rom: &[u8], ps: u16, pc: u16, p: Prefixes, b: u8, i: u16)
 
 fn rol4(ram: &[u8], rom: &[u8], ps: u16, pc: u16, p: Prefixes, i: u16) -> Decoded
     requires { ⌜ i ≤ 5 ⌝ }
-    ensures { λ r. ⌜ Decodes (digit (λ to. Decimals (Rol4 to)) p) (codeByte (now (ram .entry)) (now (rom .entry)) ps pc) i r ⌝ }
+    ensures { λ r. ⌜ Decodes (withPlain p (λ to. Decimals (Rol4 to))) (codeByte (now (ram .entry)) (now (rom .entry)) ps pc) i r ⌝ }
 {
     let o = places::operands(ram, rom, ps, pc, p, i);
     let place = o.place;
@@ -107,7 +107,7 @@ fn rol4(ram: &[u8], rom: &[u8], ps: u16, pc: u16, p: Prefixes, i: u16) -> Decode
 
 fn ror4(ram: &[u8], rom: &[u8], ps: u16, pc: u16, p: Prefixes, i: u16) -> Decoded
     requires { ⌜ i ≤ 5 ⌝ }
-    ensures { λ r. ⌜ Decodes (digit (λ to. Decimals (Ror4 to)) p) (codeByte (now (ram .entry)) (now (rom .entry)) ps pc) i r ⌝ }
+    ensures { λ r. ⌜ Decodes (withPlain p (λ to. Decimals (Ror4 to))) (codeByte (now (ram .entry)) (now (rom .entry)) ps pc) i r ⌝ }
 {
     let o = places::operands(ram, rom, ps, pc, p, i);
     let place = o.place;

@@ -12,7 +12,7 @@ ghost use Rattle.sheet.specs.declared.Instr.the-variants.{Transfers, Stacks};
 ghost use Rattle.sheet.specs.declared.Transfer.the-variants.{Ldea};
 ghost use Rattle.sheet.specs.declared.Stack.the-variants.{Pop};
 ghost use Rattle.sheet.specs.Step.{codeByte};
-ghost use Rattle.sheet.specs.SecondByte.{digit};
+ghost use Rattle.sheet.specs.SecondByte.{withPlain};
 ghost use Rattle.sheet.specs.FirstByte.{smallImmediate, withImmediate, withMemory, fromSegment, toSegment, bytes80};
 ghost use Rattle.answers.specs.Answer.{Takes, Decodes, Names};
 
@@ -165,7 +165,7 @@ fn ldea(ram: &[u8], rom: &[u8], ps: u16, pc: u16, p: Prefixes, i: u16) -> Decode
 
 fn pop(ram: &[u8], rom: &[u8], ps: u16, pc: u16, p: Prefixes, i: u16) -> Decoded
     requires { ⌜ i ≤ 4 ⌝ }
-    ensures { λ r. ⌜ Decodes (digit (λ a. Stacks (Pop a)) p) (codeByte (now (ram .entry)) (now (rom .entry)) ps pc) i r ⌝ }
+    ensures { λ r. ⌜ Decodes (withPlain p (λ a. Stacks (Pop a))) (codeByte (now (ram .entry)) (now (rom .entry)) ps pc) i r ⌝ }
 {
     let o = places::operands(ram, rom, ps, pc, p, i);
     let place = o.place;

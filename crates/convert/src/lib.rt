@@ -1,8 +1,8 @@
 // ADJ4A, ADJ4S, ADJBA, ADJBS, CVTBD, CVTDB, CVTBW, CVTWL on AL or AW and PSW. No public function has a precondition.
 ghost use mathlib.Core.Path.{_≡_};
+ghost use mathlib.Core.Bool.{true};
 ghost use Prim.Native.Nat.{_+_, _*_, _/_, _%_, _≤_};
-ghost use lib.Dec.{ltb};
-ghost use Rattle.sheet.specs.Width.{extend, pick};
+ghost use Rattle.sheet.specs.Width.{extend, pick, signOf};
 ghost use Rattle.sheet.specs.Psw.{AC, CY, flagOf};
 ghost use Rattle.sheet.specs.Contract.{flagged};
 ghost use Rattle.sheet.specs.Decimal.{packedResult, unpacked, unpackedResult};
@@ -74,7 +74,7 @@ pub fn cvtbw(aw: u16) -> u16
 
 // DW after CVTWL.
 pub fn cvtwl(aw: u16) -> u16
-    ensures { λ r. ⌜ r ≡ pick (ltb aw 32768) 0 65535 ⌝ }
+    ensures { λ r. ⌜ r ≡ pick (signOf true aw) 65535 0 ⌝ }
 {
     if aw < 32768 { 0 } else { 65535 }
 }

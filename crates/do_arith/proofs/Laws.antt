@@ -18,7 +18,7 @@ use Rattle.sheet.specs.Psw.{CY, flagOf}
 use Rattle.sheet.specs.Registers.{PSW}
 use Rattle.sheet.specs.Handler.{nothing, _⊕_}
 use Rattle.sheet.specs.Operand.{locate, fetch, deposit, valueAt, sourceValue}
-use Rattle.sheet.specs.Arithmetic.{Result, logical, unary, operate, conclude, two, one, test}
+use Rattle.sheet.specs.Arithmetic.{Result, logical, unary, operate, conclude, two, one, test, finish}
 use Rattle.sheet.specs.Contract.{OnFile, OnMemory, flagged}
 use Rattle.sheet.proofs.Lifted.{file-pure, memory-seq, memory-free, memory-last, memory-at-most, on-memory}
 use Rattle.psw.proofs.Results.{file-affect, value-is}
@@ -48,7 +48,7 @@ module _ (f g ram ram′ rom : List ℕ) where
 
   pub one-is : (op : Unary) (w : Bool) (to : Place) (s : Spot) (a : ℕ) (x : Flagged) (n m : Bus) → OnFile Spot (locate to) f s f → OnMemory ℕ (fetch w s) f ram rom a f ram n 2
       → x ≡ flagged (unary op w a) (getD f PSW 0) → OnMemory Unit (deposit w s (x .value)) (set f PSW (x .psw)) ram rom tt g ram′ m 2 → OnMemory Unit (one op w to) f ram rom tt g ram′ (n ⊕ m) 6
-  unfolding one
+  unfolding one finish
   one-is op w to s a x n m p q e h =
       let o = unary op w a in
       memory-at-most {t = 4} 6 (lit≤ tt) (memory-free _ p (memory-seq _ {t = 2} {u = 2} q (memory-free _ (file-affect o f x e) (rw (value-is o f x e) at h))))

@@ -15,12 +15,11 @@ use Rattle.sheet.specs.Act.{affect}
 use Rattle.sheet.specs.Handler.{_⊕_}
 use Rattle.sheet.specs.Operand.{setReg}
 use Rattle.sheet.specs.Arithmetic.{difference}
-use Rattle.sheet.specs.Block.{stepIndex, sourceElement, targetElement, setTarget, primitive, element, block}
+use Rattle.sheet.specs.Block.{stepIndex, sourceElement, targetElement, setTarget, primitive, afterElement, element, block}
 use Rattle.sheet.specs.Contract.{OnFile, OnMemory}
 use Rattle.sheet.proofs.Lifted.{file-seq, memory-seq, memory-free, memory-last, memory-at-most}
 use Rattle.registers.proofs.Laws.{file-reg}
 use Rattle.elements.specs.declared.Due.{Due}
-use Rattle.elements.specs.AfterElement.{afterElement}
 use Rattle.elements.specs.Due.{dueOf, dueTree}
 use Rattle.elements.proofs.DueLaws.{element-is, due-memory}
 use Rattle.do_block.specs.declared.Portless.{Portless}

@@ -12,8 +12,8 @@ use Rattle.sheet.specs.Width.{add16}
 use Rattle.sheet.specs.Registers.{SP, PC, fileOf}
 use Rattle.sheet.specs.Handler.{nothing, _⊕_}
 use Rattle.sheet.specs.Operand.{baseOf, offsetOf, valueAt}
-use Rattle.sheet.specs.Traps.{pop}
-use Rattle.sheet.specs.Branch.{jumpFar, release, ret, retPop, retFar, retFarPop, brTo, brFarAt, branch}
+use Rattle.sheet.specs.Traps.{pop, popInto, jumpFar}
+use Rattle.sheet.specs.Branch.{release, ret, retPop, retFar, retFarPop, brTo, brFarAt, branch}
 use Rattle.sheet.specs.Contract.{OnFile, OnMemory}
 use Rattle.sheet.proofs.Lifted.{file-known, file-seq, file-registers, file-set, memory-seq, memory-free, memory-last, on-memory}
 use Rattle.memory.specs.Accesses.{Loads}
@@ -24,7 +24,7 @@ module _ (f g h ram rom : List ℕ) where
   release-is size x e = file-seq _ file-registers (rw (← e) (file-set SP x))
 
   pub ret-is : (v : ℕ) (n : Bus) → OnMemory ℕ pop f ram rom v g ram n 2 → OnMemory Unit ret f ram rom tt (set g PC v) ram n 2
-  unfolding ret
+  unfolding ret popInto
   ret-is v n p = memory-last _ p (file-set PC v)
 
   pub ret-pop-is : (size : ℕ) (n : Bus) → OnMemory Unit ret f ram rom tt h ram n 2 → OnFile Unit (release size) h tt g → OnMemory Unit (retPop size) f ram rom tt g ram n 2

@@ -7,18 +7,15 @@ use lib.ListN.{getD, set}
 use Rattle.sheet.specs.declared.Bus.{Bus}
 use Rattle.sheet.specs.declared.Address.{Address}
 use Rattle.sheet.specs.declared.Place.{Place}
-use Rattle.sheet.specs.declared.Place.the-variants.{Memory}
-use Rattle.sheet.specs.Registers.{PS, PC, fileOf, readReg}
-use Rattle.sheet.specs.Act.{registers, _>>=_}
+use Rattle.sheet.specs.declared.Place.the-variants.{Register, Memory}
+use Rattle.sheet.specs.Registers.{PC, fileOf, readReg}
 use Rattle.sheet.specs.Handler.{_⊕_}
 use Rattle.sheet.specs.Operand.{valueAt, pairAt}
-use Rattle.sheet.specs.Traps.{push}
-use Rattle.sheet.specs.Branch.{jump, jumpFar, pushPc, callNear, callTo, callFar, callFarAt}
+use Rattle.sheet.specs.Traps.{push, pushPsPc, jumpFar}
+use Rattle.sheet.specs.Branch.{jump, pushPc, callNear, callTo, callFar, callFarAt}
 use Rattle.sheet.specs.Contract.{OnFile, OnMemory}
 use Rattle.sheet.proofs.Lifted.{file-seq, file-registers, file-set, memory-seq, memory-free, memory-last}
 use Rattle.registers.proofs.Laws.{file-reg}
-use Rattle.traps.specs.PushTwo.{pushTwo}
-use Rattle.do_call.specs.Calls.{callRegister, callHeld}
 
 module _ (f g ram ram′ rom : List ℕ) where
   pub push-pc-is : (pc : ℕ) (n : Bus) → pc ≡ getD f PC 0 → OnMemory Unit (push pc) f ram rom tt g ram′ n 2 → OnMemory Unit pushPc f ram rom tt g ram′ n 2
@@ -30,29 +27,19 @@ module _ (f g ram ram′ rom : List ℕ) where
   call-near-is disp h n p q = memory-last _ p q
 
   pub call-register-is : (r x : ℕ) (n : Bus) → OnMemory Unit pushPc f ram rom tt g ram′ n 2 → x ≡ readReg true (fileOf g) r
-      → OnMemory Unit (callRegister r) f ram rom tt (set g PC x) ram′ n 2
-  unfolding callRegister
+      → OnMemory Unit (callTo (Register r)) f ram rom tt (set g PC x) ram′ n 2
+  unfolding callTo
   call-register-is r x n p e = memory-last _ p (file-seq _ (file-reg true r e) (file-set PC x))
 
-  pub call-held-is : (to : Place) (v : ℕ) (n m : Bus) → OnMemory ℕ (valueAt true to) f ram rom v f ram n 2 → OnMemory Unit pushPc f ram rom tt g ram′ m 2
-      → OnMemory Unit (callHeld to) f ram rom tt (set g PC v) ram′ (n ⊕ m) 4
-  unfolding callHeld
-  call-held-is to v n m p q = memory-seq _ {t = 2} {u = 2} p (memory-last _ q (file-set PC v))
+  pub call-held-is : (a : Address) (v : ℕ) (n m : Bus) → OnMemory ℕ (valueAt true (Memory a)) f ram rom v f ram n 2 → OnMemory Unit pushPc f ram rom tt g ram′ m 2
+      → OnMemory Unit (callTo (Memory a)) f ram rom tt (set g PC v) ram′ (n ⊕ m) 4
+  unfolding callTo
+  call-held-is a v n m p q = memory-seq _ {t = 2} {u = 2} p (memory-last _ q (file-set PC v))
 
-  pub at-memory : (to p : Place) (a : Address) (n : Bus) → to ≡ Memory a → p ≡ Memory a → OnMemory Unit (callHeld p) f ram rom tt g ram′ n 4 → OnMemory Unit (callTo to) f ram rom tt g ram′ n 4
-  unfolding callTo callHeld
-  at-memory to p a n e q h = rw e (rw q at h)
 
-  module _ (h : List ℕ) (ps pc x y : ℕ) (n : Bus) where
-    pushed-together : x ≡ getD f PS 0 → y ≡ getD f PC 0 → OnMemory Unit (pushTwo x y) f ram rom tt h ram′ n 4 → OnFile Unit (jumpFar ps pc) h tt g
-        → OnMemory Unit (registers >>= (λ r. pushTwo (r PS) (r PC) >>= (λ _. jumpFar ps pc))) f ram rom tt g ram′ n 4
-    pushed-together e q p k = memory-free _ file-registers (rw (← e, ← q) (memory-last _ p k))
-
-    -- the same tree once its sequences are opened
-    pub call-far-is : x ≡ getD f PS 0 → y ≡ getD f PC 0 → OnMemory Unit (pushTwo x y) f ram rom tt h ram′ n 4 → OnFile Unit (jumpFar ps pc) h tt g
-        → OnMemory Unit (callFar ps pc) f ram rom tt g ram′ n 4
-    unfolding callFar pushTwo push _>>=_
-    call-far-is e q p k = pushed-together e q p k
+  pub call-far-is : (ps pc : ℕ) (h : List ℕ) (n : Bus) → OnMemory Unit pushPsPc f ram rom tt h ram′ n 4 → OnFile Unit (jumpFar ps pc) h tt g → OnMemory Unit (callFar ps pc) f ram rom tt g ram′ n 4
+  unfolding callFar
+  call-far-is ps pc h n p k = memory-last _ p k
 
   pub call-far-at-is : (at : Address) (x y : ℕ) (n m : Bus) → OnMemory (ℕ × ℕ) (pairAt at) f ram rom ((x, y)) f ram n 4 → OnMemory Unit (callFar y x) f ram rom tt g ram′ m 4
       → OnMemory Unit (callFarAt at) f ram rom tt g ram′ (n ⊕ m) 8

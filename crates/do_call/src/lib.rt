@@ -1,12 +1,11 @@
 // CALL. PC stands on the next instruction when it begins.
 use registers::PC;
-use registers::PS;
 use sheet::Address;
 use sheet::Bus;
 use sheet::Place;
+ghost use Rattle.sheet.specs.declared.Place.the-variants.{Register, Memory};
 ghost use Rattle.sheet.specs.Branch as tree;
 ghost use Rattle.sheet.specs.Contract.{OnMemory};
-ghost use Rattle.do_call.specs.Calls.{callRegister, callHeld};
 
 fn push_pc(file: &mut [u16; 14], ram: &mut [u8], rom: &[u8]) -> Bus
     ensures { λ r. ⌜ OnMemory Unit tree.pushPc (now (file .entry)) (now (ram .entry)) (now (rom .entry)) tt (now (file .exit)) (now (ram .exit)) r 2 ⌝ }
@@ -25,7 +24,7 @@ pub fn call_near(file: &mut [u16; 14], ram: &mut [u8], rom: &[u8], disp: u16) ->
 
 // CALL regptr16 reads its register after the push.
 fn call_register(file: &mut [u16; 14], ram: &mut [u8], rom: &[u8], n: u8) -> Bus
-    ensures { λ r. ⌜ OnMemory Unit (callRegister n) (now (file .entry)) (now (ram .entry)) (now (rom .entry)) tt (now (file .exit)) (now (ram .exit)) r 2 ⌝ }
+    ensures { λ r. ⌜ OnMemory Unit (tree.callTo (Register n)) (now (file .entry)) (now (ram .entry)) (now (rom .entry)) tt (now (file .exit)) (now (ram .exit)) r 2 ⌝ }
 {
     let b = push_pc(file, ram, rom);
     file[PC] = registers::reg(true, file, n);
@@ -33,10 +32,10 @@ fn call_register(file: &mut [u16; 14], ram: &mut [u8], rom: &[u8], n: u8) -> Bus
 }
 
 // CALL memptr16 reads its memory before the push.
-fn call_held(file: &mut [u16; 14], ram: &mut [u8], rom: &[u8], to: Place) -> Bus
-    ensures { λ r. ⌜ OnMemory Unit (callHeld to) (now (file .entry)) (now (ram .entry)) (now (rom .entry)) tt (now (file .exit)) (now (ram .exit)) r 4 ⌝ }
+fn call_held(file: &mut [u16; 14], ram: &mut [u8], rom: &[u8], a: Address) -> Bus
+    ensures { λ r. ⌜ OnMemory Unit (tree.callTo (Memory a)) (now (file .entry)) (now (ram .entry)) (now (rom .entry)) tt (now (file .exit)) (now (ram .exit)) r 4 ⌝ }
 {
-    let v = operand::value_at(true, file, ram, rom, to);
+    let v = operand::value_at(true, file, ram, rom, Place::Memory(a));
     let b = push_pc(file, ram, rom);
     file[PC] = v.value;
     Bus {
@@ -49,16 +48,14 @@ pub fn call_to(file: &mut [u16; 14], ram: &mut [u8], rom: &[u8], to: Place) -> B
 {
     match to {
         Place::Register(n) => call_register(file, ram, rom, n),
-        Place::Memory(a) => call_held(file, ram, rom, to),
+        Place::Memory(a) => call_held(file, ram, rom, a),
     }
 }
 
 pub fn call_far(file: &mut [u16; 14], ram: &mut [u8], rom: &[u8], ps: u16, pc: u16) -> Bus
     ensures { λ r. ⌜ OnMemory Unit (tree.callFar ps pc) (now (file .entry)) (now (ram .entry)) (now (rom .entry)) tt (now (file .exit)) (now (ram .exit)) r 4 ⌝ }
 {
-    let x = file[PS];
-    let y = file[PC];
-    let b = traps::push_two(file, ram, rom, x, y);
+    let b = traps::push_ps_pc(file, ram, rom);
     jumps::jump_far(file, ps, pc);
     b
 }

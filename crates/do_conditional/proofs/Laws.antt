@@ -10,10 +10,9 @@ use Rattle.sheet.specs.Width.{sub16}
 use Rattle.sheet.specs.Psw.{Flag, CY, Z, S, OV, flagOf}
 use Rattle.sheet.specs.Act.{pure, _>>=_, flag}
 use Rattle.sheet.specs.Registers.{CW, PSW}
-use Rattle.sheet.specs.Branch.{jump, lessOrEqual, conditions, condition, jumpIf, branchIf, countDown, dbnzWhile, dbnz, bcwz}
+use Rattle.sheet.specs.Branch.{jump, lessOrEqual, conditions, asked, condition, jumpIf, branchIf, countDown, dbnzWhile, dbnz, bcwz}
 use Rattle.sheet.specs.Contract.{OnFile}
 use Rattle.sheet.proofs.Lifted.{file-seq, file-pure, file-registers, file-set, file-flag, file-true, file-false}
-use Rattle.do_conditional.specs.Asked.{asked}
 
 -- ---- conditions, by n / 2 % 8
 
@@ -51,7 +50,7 @@ module _ (f : List ℕ) (n : ℕ) where
       asks 7 _ (last-left n a b c d e g h) (file-seq _ (two-flags S OV (λ x y. not (Bool·beq x y)) p q) (file-seq _ (file-flag Z k) file-pure))
 
   pub condition-is : (b : Bool) → OnFile Bool (asked n) f b f → OnFile Bool (condition n) f (not (Bool·beq b (eqb (n % 2) 1))) f
-  unfolding condition asked
+  unfolding condition
   condition-is b p = file-seq _ p file-pure
 
 -- ---- instructions

@@ -5,11 +5,10 @@ use sheet::Conditional;
 ghost use mathlib.Core.Bool.{Bool};
 ghost use Rattle.sheet.specs.Branch as tree;
 ghost use Rattle.sheet.specs.Contract.{OnFile};
-ghost use Rattle.do_conditional.specs.Asked.{asked};
 
 // BV, BC, BE, BNH, BN, BPE, BLT, BLE.
 fn asked(file: &[u16; 14], n: u8) -> bool
-    ensures { λ r. ⌜ OnFile Bool (asked n) (now (file .entry)) r (now (file .entry)) ⌝ }
+    ensures { λ r. ⌜ OnFile Bool (tree.asked n) (now (file .entry)) r (now (file .entry)) ⌝ }
 {
     let psw = file[PSW];
     match n / 2 % 8 {

@@ -3,15 +3,14 @@ use Prim.Native.Nat.{ℕ, _+_, _*_, _/_, _%_}
 use mathlib.Core.Path.{_≡_, refl}
 use mathlib.Core.Bool.{Bool, false}
 use mathlib.Core.List.{List}
-use lib.Dec.{ltb}
 use lib.ListN.{getD, set}
 use Rattle.sheet.specs.declared.Flagged.{Flagged}
-use Rattle.sheet.specs.Width.{pick, extend}
+use Rattle.sheet.specs.Width.{pick, signOf, extend}
 use Rattle.sheet.specs.Psw.{AC, CY, flagOf, column}
 use Rattle.sheet.specs.Registers.{AW, DW, PSW, AL, AH, fileOf, readReg}
 use Rattle.sheet.specs.Act.{_>>=_, _≔_, affect}
-use Rattle.sheet.specs.Arithmetic.{Result}
-use Rattle.sheet.specs.Operand.{setReg}
+use Rattle.sheet.specs.Arithmetic.{Result, finish}
+use Rattle.sheet.specs.Operand.{deposit, setReg}
 use Rattle.sheet.specs.Decimal.{packedResult, unpackedResult, adj4, adjb}
 use Rattle.sheet.specs.Convert.{converted, cvtbd, cvtdb, cvtbw, cvtwl}
 use Rattle.sheet.specs.Convert as sheet
@@ -24,7 +23,7 @@ use Rattle.psw.proofs.Results.{file-affect, value-is}
 module _ (f : List ℕ) where
   pub adj4-is : (sub : Bool) (al : ℕ) (x : Flagged) (g : List ℕ) → al ≡ readReg false (fileOf f) AL → x ≡ flagged (packedResult sub al (flagOf (getD f PSW 0) AC) (flagOf (getD f PSW 0) CY)) (getD f PSW 0)
       → OnFile Unit (setReg false AL (x .value)) (set f PSW (x .psw)) tt g → OnFile Unit (adj4 sub) f tt g
-  unfolding adj4
+  unfolding adj4 finish deposit
   adj4-is sub al x g e q h =
       let r = packedResult sub al (flagOf (getD f PSW 0) AC) (flagOf (getD f PSW 0) CY) in
       file-seq _ (file-reg false AL e) (file-seq _ (file-flag AC refl) (file-seq _ (file-flag CY refl) (file-seq _ (file-affect r f x q) (rw (value-is r f x q) at h))))
@@ -53,6 +52,6 @@ module _ (f : List ℕ) where
   unfolding cvtbw readReg
   cvtbw-is x q = file-seq _ (file-reg false AL refl) (rw (← q) (file-set AW x))
 
-  pub cvtwl-is : (x : ℕ) → x ≡ pick (ltb (getD f AW 0) 32768) 0 65535 → OnFile Unit cvtwl f tt (set f DW x)
+  pub cvtwl-is : (x : ℕ) → x ≡ pick (signOf true (getD f AW 0)) 65535 0 → OnFile Unit cvtwl f tt (set f DW x)
   unfolding cvtwl
-  cvtwl-is x q = file-seq _ file-registers (rw q (file-set DW (pick (ltb (getD f AW 0) 32768) 0 65535)))
+  cvtwl-is x q = file-seq _ file-registers (rw q (file-set DW (pick (signOf true (getD f AW 0)) 65535 0)))

@@ -23,7 +23,7 @@ use Rattle.sheet.specs.World.{world, withFile}
 use Rattle.sheet.specs.Act.{peek, poke}
 use Rattle.sheet.specs.Handler.{_⊕_, busOf}
 use Rattle.sheet.specs.Operand.{locate, fetch, deposit, setReg}
-use Rattle.sheet.specs.Decimal.{digits, link, rol4, ror4, string}
+use Rattle.sheet.specs.Decimal.{digits, link, begun, chained, rol4, ror4, string}
 use Rattle.sheet.specs.Contract.{OnFile, OnMemory}
 use Rattle.sheet.proofs.Rules.{⊕-assoc}
 use Rattle.sheet.proofs.Lifted.{file-seq, file-pure, file-registers, file-flags, memory-seq, memory-free, memory-last, memory-at-most, memory-true, file-false}
@@ -32,7 +32,6 @@ use Rattle.memory.specs.Accesses.{Loads, Stores}
 use Rattle.registers.proofs.Laws.{file-reg}
 use Rattle.decimal.proofs.RotateLaws.{set-wraps}
 use Rattle.do_decimal.specs.Both.{Both}
-use Rattle.do_decimal.specs.Chained.{begun, chained}
 
 -- ---- one byte of the strings
 
@@ -117,7 +116,7 @@ string-psw-is x psw c f e q = q ∙ rw e
 
 pub string-is : (f ram ram′ rom : List ℕ) (sub stores : Bool) (seg : ℕ) (c : Chain) (n : Bus) (x : ℕ) → OnMemory Chain (chained sub stores seg ((getD f CW 0 % 256 + 1) / 2)) f ram rom c f ram′ n 384
     → x ≡ settled keeps (column (columns unknown (becomes (c .cy)) unknown unknown unknown (becomes (c .zero)))) (getD f PSW 0) → OnMemory Unit (string sub stores seg) f ram rom tt (set f PSW x) ram′ n 384
-unfolding string readReg chained
+unfolding string readReg
 string-is f ram ram′ rom sub stores seg c n x h e =
     memory-free _ (file-reg false CL refl)
     (memory-last _ h (file-flags (column (columns unknown (becomes (c .cy)) unknown unknown unknown (becomes (c .zero)))) e))

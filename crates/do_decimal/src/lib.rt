@@ -14,7 +14,6 @@ ghost use Rattle.sheet.specs.Psw.{unknown, becomes, columns, column, keeps, set
 ghost use Rattle.sheet.specs.Decimal as sheet;
 ghost use Rattle.sheet.specs.Execute as tree;
 ghost use Rattle.sheet.specs.Contract.{OnMemory};
-ghost use Rattle.do_decimal.specs.Chained.{chained};
 ghost use Rattle.do_decimal.specs.Both.{Both};
 
 // What goes on to the next byte, and what the accesses so far came to.
@@ -94,7 +93,7 @@ fn chained(
     last: u16,
 ) -> Linked
     requires { ⌜ last ≤ 128 ⌝ }
-    ensures { λ r. ⌜ OnMemory Chain (chained sub stores seg last) (now (file .entry)) (now (ram .entry)) (now (rom .entry)) (r .chain) (now (file .entry)) (now (ram .exit)) (r .bus) 384 ⌝ }
+    ensures { λ r. ⌜ OnMemory Chain (sheet.chained sub stores seg last) (now (file .entry)) (now (ram .entry)) (now (rom .entry)) (r .chain) (now (file .entry)) (now (ram .exit)) (r .bus) 384 ⌝ }
 {
     let mut i: u16 = 0;
     let mut cy = false;

@@ -7,22 +7,22 @@ use Rattle.sheet.specs.declared.Bus.{Bus}
 use Rattle.sheet.specs.Registers.{AW, CW, DW, BW, SP, BP, IX, IY}
 use Rattle.sheet.specs.Act.{registers, _>>=_}
 use Rattle.sheet.specs.Handler.{_⊕_}
-use Rattle.sheet.specs.Traps.{push, pop}
-use Rattle.sheet.specs.Stack.{pushR, popInto, popR}
+use Rattle.sheet.specs.Traps.{push, pop, popInto}
+use Rattle.sheet.specs.Stack.{pushR, popR}
 use Rattle.sheet.specs.Contract.{OnMemory}
 use Rattle.sheet.proofs.Lifted.{file-registers, file-set, memory-seq, memory-free, memory-last}
-use Rattle.traps.specs.PushTwo.{pushTwo}
-use Rattle.do_eight.specs.Parts.{pushFour, popPointers, popGeneral}
+use Rattle.do_eight.specs.Parts.{pushTwo, pushFour, popPointers, popGeneral}
 
 module _ (f g h ram ram₁ ram₂ rom : List ℕ) where
-  two-twos : (a b c d : ℕ) (n m : Bus) → OnMemory Unit (pushTwo a b) f ram rom tt g ram₁ n 4 → OnMemory Unit (pushTwo c d) g ram₁ rom tt h ram₂ m 4
-      → OnMemory Unit (pushTwo a b >>= (λ _. pushTwo c d)) f ram rom tt h ram₂ (n ⊕ m) 8
-  two-twos a b c d n m p q = memory-seq _ {t = 4} {u = 4} p q
+  pub two-are : (x y : ℕ) (n m : Bus) → OnMemory Unit (push x) f ram rom tt g ram₁ n 2 → OnMemory Unit (push y) g ram₁ rom tt h ram₂ m 2
+      → OnMemory Unit (pushTwo x y) f ram rom tt h ram₂ (n ⊕ m) 4
+  unfolding pushTwo
+  two-are x y n m p q = memory-seq _ {t = 2} {u = 2} p q
 
   pub four-are : (a b c d : ℕ) (n m : Bus) → OnMemory Unit (pushTwo a b) f ram rom tt g ram₁ n 4 → OnMemory Unit (pushTwo c d) g ram₁ rom tt h ram₂ m 4
       → OnMemory Unit (pushFour a b c d) f ram rom tt h ram₂ (n ⊕ m) 8
-  unfolding pushFour pushTwo push _>>=_
-  four-are a b c d n m p q = two-twos a b c d n m p q
+  unfolding pushFour
+  four-are a b c d n m p q = memory-seq _ {t = 4} {u = 4} p q
 
   module _ (aw cw dw bw sp bp ix iy : ℕ) (n m : Bus) where
     two-fours : aw ≡ getD f AW 0 → cw ≡ getD f CW 0 → dw ≡ getD f DW 0 → bw ≡ getD f BW 0 → sp ≡ getD f SP 0 → bp ≡ getD f BP 0 → ix ≡ getD f IX 0 → iy ≡ getD f IY 0
@@ -33,7 +33,7 @@ module _ (f g h ram ram₁ ram₂ rom : List ℕ) where
     pub push-r-is : aw ≡ getD f AW 0 → cw ≡ getD f CW 0 → dw ≡ getD f DW 0 → bw ≡ getD f BW 0 → sp ≡ getD f SP 0 → bp ≡ getD f BP 0 → ix ≡ getD f IX 0 → iy ≡ getD f IY 0
         → OnMemory Unit (pushFour aw cw dw bw) f ram rom tt g ram₁ n 8 → OnMemory Unit (pushFour sp bp ix iy) g ram₁ rom tt h ram₂ m 8
         → OnMemory Unit pushR f ram rom tt h ram₂ (n ⊕ m) 16
-    unfolding pushR pushFour push _>>=_
+    unfolding pushR pushFour pushTwo push _>>=_
     push-r-is a b c d e i j k p q = two-fours a b c d e i j k p q
 
 -- ---- POP R

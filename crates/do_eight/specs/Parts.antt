@@ -2,15 +2,17 @@
 use Prim.Native.Nat.{ℕ}
 use Rattle.sheet.specs.Registers.{AW, CW, DW, BW, BP, IX, IY}
 use Rattle.sheet.specs.Act.{Act, _>>=_, _>>_}
-use Rattle.sheet.specs.Traps.{push, pop}
-use Rattle.sheet.specs.Stack.{popInto}
+use Rattle.sheet.specs.Traps.{push, pop, popInto}
+
+unfoldable pub pushTwo : ℕ → ℕ → Act Unit
+pushTwo x y = do
+  push x
+  push y
 
 unfoldable pub pushFour : (a b c d : ℕ) → Act Unit
 pushFour a b c d = do
-  push a
-  push b
-  push c
-  push d
+  pushTwo a b
+  pushTwo c d
 
 -- the word that stands for SP is handed on
 unfoldable pub popPointers : Act ℕ

@@ -12,7 +12,17 @@ use sheet::Bus;
 ghost use Prim.Native.Nat.{ℕ};
 ghost use Rattle.sheet.specs.Stack as tree;
 ghost use Rattle.sheet.specs.Contract.{OnMemory};
-ghost use Rattle.do_eight.specs.Parts.{pushFour, popPointers, popGeneral};
+ghost use Rattle.do_eight.specs.Parts.{pushTwo, pushFour, popPointers, popGeneral};
+
+fn push_two(file: &mut [u16; 14], ram: &mut [u8], rom: &[u8], x: u16, y: u16) -> Bus
+    ensures { λ r. ⌜ OnMemory Unit (pushTwo x y) (now (file .entry)) (now (ram .entry)) (now (rom .entry)) tt (now (file .exit)) (now (ram .exit)) r 4 ⌝ }
+{
+    let a = traps::push(file, ram, rom, x);
+    let b = traps::push(file, ram, rom, y);
+    Bus {
+        cycles: a.cycles + b.cycles,
+    }
+}
 
 fn push_four(
     file: &mut [u16; 14],
@@ -25,8 +35,8 @@ fn push_four(
 ) -> Bus
     ensures { λ r. ⌜ OnMemory Unit (pushFour a b c d) (now (file .entry)) (now (ram .entry)) (now (rom .entry)) tt (now (file .exit)) (now (ram .exit)) r 8 ⌝ }
 {
-    let x = traps::push_two(file, ram, rom, a, b);
-    let y = traps::push_two(file, ram, rom, c, d);
+    let x = push_two(file, ram, rom, a, b);
+    let y = push_two(file, ram, rom, c, d);
     Bus {
         cycles: x.cycles + y.cycles,
     }

@@ -14,12 +14,11 @@ use Rattle.sheet.specs.Registers.{AW, IX, IY, DS1, fileOf, segment, readReg}
 use Rattle.sheet.specs.Act.{_≔_}
 use Rattle.sheet.specs.Operand.{setReg}
 use Rattle.sheet.specs.Handler.{nothing, _⊕_}
-use Rattle.sheet.specs.Fields.{replaced, fieldOf, lengthOf, advance, insertInto, ins, window, ext}
+use Rattle.sheet.specs.Fields.{replaced, fieldOf, lengthOf, advance, insertInto, firstPart, secondPart, ins, window, ext}
 use Rattle.sheet.specs.Contract.{OnFile, OnMemory}
 use Rattle.sheet.proofs.Lifted.{file-seq, file-pure, file-registers, file-set, memory-seq, memory-free, memory-last, memory-at-most, memory-true, memory-false, on-memory}
 use Rattle.memory.specs.Accesses.{Loads, Stores}
 use Rattle.registers.proofs.Laws.{file-reg}
-use Rattle.do_field.specs.Parts.{firstPart, secondPart}
 
 module _ (f : List ℕ) (l : Length) where
   pub code-in-register : (n v : ℕ) → l ≡ InRegister n → v ≡ readReg false (fileOf f) n → OnFile ℕ (lengthOf l) f (v % 16 + 1) f
@@ -65,7 +64,7 @@ no-second f ram rom o code sum s t = memory-false _ _ (rw s at (le-ltb 16 sum t)
 pub ins-is : (f g ram ram₁ ram₂ rom : List ℕ) (offset o code sum : ℕ) (l : Length) (n m : Bus) → o ≡ readReg false (fileOf f) offset → OnFile ℕ (lengthOf l) f (code % 16 + 1) f
     → OnMemory Unit (firstPart (fileOf f) (o % 16) (code % 16 + 1)) f ram rom tt f ram₁ n 4 → OnMemory Unit (secondPart (fileOf f) (o % 16) (code % 16 + 1)) f ram₁ rom tt f ram₂ m 4
     → sum ≡ o % 16 + (code % 16 + 1) → OnFile Unit (advance offset IY sum) f tt g → OnMemory Unit (ins offset l) f ram rom tt g ram₂ (n ⊕ m) 8
-unfolding ins firstPart secondPart
+unfolding ins
 ins-is f g ram ram₁ ram₂ rom offset o code sum l n m e h p q s k =
     memory-free _ (file-reg false offset e) (memory-free _ h (memory-free _ file-registers (memory-seq _ {t = 4} {u = 4} p (memory-last _ q (rw s at k)))))
 

@@ -14,7 +14,6 @@ ghost use Rattle.sheet.specs.Registers.{fileOf};
 ghost use Rattle.sheet.specs.Fields as sheet;
 ghost use Rattle.sheet.specs.Execute as tree;
 ghost use Rattle.sheet.specs.Contract.{OnFile, OnMemory};
-ghost use Rattle.do_field.specs.Parts.{firstPart, secondPart};
 
 // The length's code, of which the low 4 bits count.
 fn code(file: &[u16; 14], length: Length) -> u16
@@ -51,7 +50,7 @@ fn advance(file: &mut [u16; 14], offset: u8, index: usize, sum: u16)
 
 // What of the field goes into the first word.
 fn first_part(file: &[u16; 14], ram: &mut [u8], rom: &[u8], offset: u16, code: u16) -> Bus
-    ensures { λ r. ⌜ OnMemory Unit (firstPart (fileOf (now (file .entry))) (offset % 16) (code % 16 + 1)) (now (file .entry)) (now (ram .entry)) (now (rom .entry)) tt (now (file .entry)) (now (ram .exit)) r 4 ⌝ }
+    ensures { λ r. ⌜ OnMemory Unit (sheet.firstPart (fileOf (now (file .entry))) (offset % 16) (code % 16 + 1)) (now (file .entry)) (now (ram .entry)) (now (rom .entry)) tt (now (file .entry)) (now (ram .exit)) r 4 ⌝ }
 {
     let base = file[DS1];
     let at = file[IY];
@@ -65,7 +64,7 @@ fn first_part(file: &[u16; 14], ram: &mut [u8], rom: &[u8], offset: u16, code: u
 
 // What goes into the second, which is not touched where nothing does.
 fn second_part(file: &[u16; 14], ram: &mut [u8], rom: &[u8], offset: u16, code: u16) -> Bus
-    ensures { λ r. ⌜ OnMemory Unit (secondPart (fileOf (now (file .entry))) (offset % 16) (code % 16 + 1)) (now (file .entry)) (now (ram .entry)) (now (rom .entry)) tt (now (file .entry)) (now (ram .exit)) r 4 ⌝ }
+    ensures { λ r. ⌜ OnMemory Unit (sheet.secondPart (fileOf (now (file .entry))) (offset % 16) (code % 16 + 1)) (now (file .entry)) (now (ram .entry)) (now (rom .entry)) tt (now (file .entry)) (now (ram .exit)) r 4 ⌝ }
 {
     if 16 < end(offset, code) {
         let base = file[DS1];

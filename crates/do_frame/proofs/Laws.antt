@@ -12,7 +12,7 @@ use Rattle.sheet.specs.Registers.{SP, BP, SS}
 use Rattle.sheet.specs.World.{world, withFile}
 use Rattle.sheet.specs.Act.{loop}
 use Rattle.sheet.specs.Handler.{nothing, _⊕_}
-use Rattle.sheet.specs.Traps.{push, pop}
+use Rattle.sheet.specs.Traps.{push, pop, popInto}
 use Rattle.sheet.specs.Stack.{frame, frames, prepare, dispose}
 use Rattle.sheet.specs.Contract.{OnMemory}
 use Rattle.sheet.proofs.Lifted.{file-seq, file-pure, file-registers, file-set, memory-seq, memory-free, memory-last, on-memory}
@@ -72,5 +72,5 @@ module _ (f g h ram ram₁ ram₂ rom : List ℕ) where
       (rw (← e, ← q) (memory-seq _ {t = 2} {u = 1018} p (memory-last _ k (file-seq _ (file-set BP temp) (file-seq _ file-registers (rw (← z) (file-set SP sp)))))))
 
   pub dispose-is : (bp v : ℕ) (n : Bus) → bp ≡ getD f BP 0 → OnMemory ℕ pop (set f SP bp) ram rom v g ram n 2 → OnMemory Unit dispose f ram rom tt (set g BP v) ram n 2
-  unfolding dispose
+  unfolding dispose popInto
   dispose-is bp v n e p = memory-free _ file-registers (rw (← e) (memory-free _ (file-set SP bp) (memory-last _ p (file-set BP v))))

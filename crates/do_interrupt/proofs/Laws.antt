@@ -18,9 +18,8 @@ use Rattle.sheet.specs.Psw.{OV, flagOf, pack, restored, settled}
 use Rattle.sheet.specs.Registers.{PS, PC, PSW, fileOf, readReg}
 use Rattle.sheet.specs.Handler.{nothing, _⊕_}
 use Rattle.sheet.specs.Operand.{pairAt}
-use Rattle.sheet.specs.Traps.{pop, trap}
+use Rattle.sheet.specs.Traps.{pop, trap, untrapped}
 use Rattle.sheet.specs.Interrupts.{brk, trapIf, brkv, reti, outside, chkind}
-use Rattle.sheet.specs.Execute.{untrapped}
 use Rattle.sheet.specs.Contract.{OnMemory}
 use Rattle.sheet.proofs.Lifted.{file-seq, file-pure, file-set, file-flag, file-flags, memory-seq, memory-free, memory-last, memory-true, memory-false, on-memory}
 use Rattle.registers.proofs.Laws.{file-reg}

@@ -11,7 +11,7 @@ ghost use mathlib.Core.Bool.{Bool};
 ghost use lib.Signed.{ltZ};
 ghost use Rattle.sheet.specs.Width.{signedOf};
 ghost use Rattle.sheet.specs.Interrupts as tree;
-ghost use Rattle.sheet.specs.Execute.{untrapped};
+ghost use Rattle.sheet.specs.Traps.{untrapped};
 ghost use Rattle.sheet.specs.Contract.{OnMemory};
 
 fn brk(file: &mut [u16; 14], ram: &mut [u8], rom: &[u8], v: u8) -> Worked

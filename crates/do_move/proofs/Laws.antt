@@ -1,6 +1,6 @@
 -- What each instruction comes to, from what its parts come to.
 use Prim.Native.Nat.{ℕ, _%_}
-use mathlib.Core.Path.{_≡_}
+use mathlib.Core.Path.{_≡_, refl}
 use mathlib.Core.Bool.{Bool, true, false}
 use mathlib.Core.List.{List}
 use lib.Dec.{lit≤}
@@ -13,14 +13,23 @@ use Rattle.sheet.specs.declared.Spot.{Spot}
 use Rattle.sheet.specs.Width.{wrapOf, add16}
 use Rattle.sheet.specs.Psw.{keeps, column, settled}
 use Rattle.sheet.specs.Registers.{AW, BW, AH, PSW, fileOf, segment, readReg}
-use Rattle.sheet.specs.Act.{_≔_}
+use Rattle.sheet.specs.Act.{_>>=_, registers, _≔_, peek, poke}
 use Rattle.sheet.specs.Handler.{nothing, _⊕_}
-use Rattle.sheet.specs.Operand.{baseOf, offsetOf, locate, fetch, deposit, valueAt, sourceValue, setReg, pairAt}
+use Rattle.sheet.specs.Operand.{baseOf, offsetOf, locate, fetch, deposit, valueAt, sourceValue, regValue, setReg, pairAt}
 use Rattle.sheet.specs.Transfer.{mov, loadAcc, storeAcc, toSegment, fromSegment, loadPointer, ahFromPsw, flagsOfByte, pswFromAh, ldea, trans, xch}
 use Rattle.sheet.specs.Contract.{OnFile, OnMemory}
 use Rattle.sheet.proofs.Lifted.{file-seq, file-registers, file-psw, file-flags, memory-seq, memory-free, memory-last, memory-at-most, on-memory}
 use Rattle.memory.specs.Accesses.{Loads, Stores}
 use Rattle.registers.proofs.Laws.{file-reg}
+
+-- MOV acc,dmem and MOV dmem,acc without the places: the address alone
+load-acc-tree : (w : Bool) (from : Address) → loadAcc w from ≡ registers >>= (λ r. peek w (baseOf r from) (offsetOf r from) >>= (λ v. setReg w AW v))
+unfolding loadAcc mov sourceValue valueAt locate fetch deposit _>>=_
+load-acc-tree w from = refl
+
+store-acc-tree : (w : Bool) (to : Address) → storeAcc w to ≡ regValue w AW >>= (λ v. registers >>= (λ r. poke w (baseOf r to) (offsetOf r to) v))
+unfolding storeAcc mov sourceValue valueAt locate fetch deposit regValue _>>=_
+store-acc-tree w to = refl
 
 module _ (f g ram ram′ rom : List ℕ) where
   pub mov-is : (w : Bool) (to : Place) (from : Source) (s : Spot) (v : ℕ) (n m : Bus) → OnMemory ℕ (sourceValue w from) f ram rom v f ram n 2 → OnFile Spot (locate to) f s f
@@ -30,13 +39,14 @@ module _ (f g ram ram′ rom : List ℕ) where
 
   pub load-acc-is : (w : Bool) (from : Address) (b o v : ℕ) (n : Bus) → b ≡ baseOf (fileOf f) from → o ≡ offsetOf (fileOf f) from → Loads w ram rom b o v n
       → OnFile Unit (setReg w AW v) f tt g → OnMemory Unit (loadAcc w from) f ram rom tt g ram n 4
-  unfolding loadAcc
-  load-acc-is w from b o v n e q h k = memory-at-most {t = 2} 4 (lit≤ tt) (memory-free _ file-registers (rw (← e, ← q) (memory-last _ (h .at f) k)))
+  load-acc-is w from b o v n e q h k =
+      rw (load-acc-tree w from) (memory-at-most {t = 2} 4 (lit≤ tt) (memory-free _ file-registers (rw (← e, ← q) (memory-last _ (h .at f) k))))
 
   pub store-acc-is : (w : Bool) (to : Address) (b o v : ℕ) (n : Bus) → v ≡ readReg w (fileOf f) AW → b ≡ baseOf (fileOf f) to → o ≡ offsetOf (fileOf f) to → Stores w ram b o v ram′ n
       → OnMemory Unit (storeAcc w to) f ram rom tt f ram′ n 4
-  unfolding storeAcc
-  store-acc-is w to b o v n z e q h = memory-at-most {t = 2} 4 (lit≤ tt) (memory-free _ (file-reg w AW z) (memory-free _ file-registers (rw (← e, ← q) (h .at f rom))))
+  store-acc-is w to b o v n z e q h =
+      rw (store-acc-tree w to)
+      (memory-at-most {t = 2} 4 (lit≤ tt) (memory-free _ (file-reg w AW z) (memory-free _ file-registers (rw (← e, ← q) (h .at f rom)))))
 
   pub to-segment-is : (seg : ℕ) (from : Place) (v : ℕ) (n : Bus) → OnMemory ℕ (valueAt true from) f ram rom v f ram n 2 → OnFile Unit (segment seg ≔ v) f tt g
       → OnMemory Unit (toSegment seg from) f ram rom tt g ram n 4
@@ -67,7 +77,7 @@ module _ (f g ram ram′ rom : List ℕ) where
 
   pub trans-is : (seg b o v : ℕ) (n : Bus) → b ≡ fileOf f (segment seg) → o ≡ add16 (getD f BW 0) (getD f AW 0 % 256) → Loads false ram rom b o v n
       → OnFile Unit (setReg false AW v) f tt g → OnMemory Unit (trans seg) f ram rom tt g ram n 4
-  unfolding trans
+  unfolding trans readReg
   trans-is seg b o v n e q h k = memory-at-most {t = 2} 4 (lit≤ tt) (memory-free _ file-registers (rw (← e, ← q) (memory-last _ (h .at f) k)))
 
   pub xch-is : (w : Bool) (reg : ℕ) (with : Place) (s : Spot) (x y : ℕ) (h : List ℕ) (n m : Bus) → OnFile Spot (locate with) f s f → OnMemory ℕ (fetch w s) f ram rom x f ram n 2

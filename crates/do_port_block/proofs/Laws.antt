@@ -14,14 +14,13 @@ use Rattle.sheet.specs.Registers.{CW, DW, IX, IY}
 use Rattle.sheet.specs.World.{stateOf}
 use Rattle.sheet.specs.Act.{pure}
 use Rattle.sheet.specs.Handler.{nothing, _⊕_}
-use Rattle.sheet.specs.Block.{sourceElement, setTarget, stepIndex, primitive, element, block}
+use Rattle.sheet.specs.Block.{sourceElement, setTarget, stepIndex, primitive, afterElement, element, block}
 use Rattle.sheet.specs.Contract.{OnFile, OnMemory}
 use Rattle.sheet.proofs.Rules.{seq, seq-last, seq-stops, seq-then-stops, ends-pure, seq-registers, ends-registers}
 use Rattle.ports.specs.Accesses.{Gives, Takes, OnPorts}
 use Rattle.ports.proofs.Told.{ports-end, ports-stop}
 use Rattle.elements.specs.declared.Due.{Due}
 use Rattle.elements.specs.Due.{dueOf, dueTree}
-use Rattle.elements.specs.AfterElement.{afterElement}
 use Rattle.elements.proofs.DueLaws.{element-is, due-ends, due-stops}
 use Rattle.do_port_block.specs.declared.Streaming.{Streaming}
 use Rattle.do_port_block.specs.declared.Streaming.the-variants as streaming

@@ -17,8 +17,8 @@ use Rattle.sheet.specs.Psw.{CY, flagOf}
 use Rattle.sheet.specs.Registers.{PSW}
 use Rattle.sheet.specs.Handler.{_⊕_}
 use Rattle.sheet.specs.Operand.{locate, fetch, deposit, amountOf}
-use Rattle.sheet.specs.Arithmetic.{Result}
-use Rattle.sheet.specs.Shift.{carryIn, finish, shiftOne, shiftMany, shiftBy, shift}
+use Rattle.sheet.specs.Arithmetic.{Result, finish}
+use Rattle.sheet.specs.Shift.{carryIn, shiftOne, shiftMany, shiftBy, shift}
 use Rattle.sheet.specs.Contract.{OnFile, OnMemory, flagged}
 use Rattle.sheet.proofs.Lifted.{memory-seq, memory-free}
 use Rattle.psw.proofs.Results.{file-affect, value-is}

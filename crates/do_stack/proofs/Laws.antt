@@ -15,13 +15,12 @@ use Rattle.sheet.specs.Registers.{SP, SS, PSW, fileOf, segment, readReg}
 use Rattle.sheet.specs.Act.{_≔_}
 use Rattle.sheet.specs.Handler.{_⊕_}
 use Rattle.sheet.specs.Operand.{locate, deposit, valueAt}
-use Rattle.sheet.specs.Traps.{push, pop}
-use Rattle.sheet.specs.Stack.{pushRegister, pushPlace, pushSegment, pushPsw, popPlace, popSegment, popPsw}
+use Rattle.sheet.specs.Traps.{push, pop, popInto, pushPsw}
+use Rattle.sheet.specs.Stack.{pushRegister, pushPlace, pushSegment, popPlace, popSegment, popPsw}
 use Rattle.sheet.specs.Contract.{OnFile, OnMemory}
 use Rattle.sheet.proofs.Lifted.{file-registers, file-set, file-flags, file-psw, memory-seq, memory-free, memory-last}
 use Rattle.word.proofs.WidthLaws.{wrap-id}
 use Rattle.memory.specs.Accesses.{Stores}
-use Rattle.do_stack.specs.Held.{pushHeld}
 
 module _ (f g ram ram′ rom : List ℕ) where
   pub push-register-is : (n x ss sp v : ℕ) (m : Bus) → x ≡ sub16 (getD f SP 0) 2 → ss ≡ getD (set f SP x) SS 0 → sp ≡ getD (set f SP x) SP 0 → v ≡ readReg true (fileOf (set f SP x)) n
@@ -30,14 +29,11 @@ module _ (f g ram ram′ rom : List ℕ) where
   push-register-is n x ss sp v m e q k z h =
       memory-free _ file-registers (rw (← e) (memory-free _ (file-set SP x) (memory-free _ file-registers (rw (← z, ← q, ← k) (h .at (set f SP x) rom)))))
 
-  pub push-held-is : (from : Place) (v : ℕ) (n m : Bus) → OnMemory ℕ (valueAt true from) f ram rom v f ram n 2 → OnMemory Unit (push v) f ram rom tt g ram′ m 2
-      → OnMemory Unit (pushHeld from) f ram rom tt g ram′ (n ⊕ m) 4
-  unfolding pushHeld
-  push-held-is from v n m p q = memory-seq _ {t = 2} {u = 2} p q
+  pub push-held-is : (a : Address) (v : ℕ) (n m : Bus) → OnMemory ℕ (valueAt true (Memory a)) f ram rom v f ram n 2 → OnMemory Unit (push v) f ram rom tt g ram′ m 2
+      → OnMemory Unit (pushPlace (Memory a)) f ram rom tt g ram′ (n ⊕ m) 4
+  unfolding pushPlace
+  push-held-is a v n m p q = memory-seq _ {t = 2} {u = 2} p q
 
-  pub at-memory : (from p : Place) (a : Address) (n : Bus) → from ≡ Memory a → p ≡ Memory a → OnMemory Unit (pushHeld p) f ram rom tt g ram′ n 4 → OnMemory Unit (pushPlace from) f ram rom tt g ram′ n 4
-  unfolding pushPlace pushHeld
-  at-memory from p a n e q h = rw e (rw q at h)
 
   pub push-segment-is : (seg v : ℕ) (n : Bus) → v ≡ fileOf f (segment seg) → OnMemory Unit (push v) f ram rom tt g ram′ n 2 → OnMemory Unit (pushSegment seg) f ram rom tt g ram′ n 2
   unfolding pushSegment
@@ -53,7 +49,7 @@ module _ (f g ram ram′ rom : List ℕ) where
   pop-place-is to v s h n m p q k = memory-seq _ {t = 2} {u = 2} p (memory-free _ q k)
 
   pub pop-segment-is : (seg v : ℕ) (h : List ℕ) (n : Bus) → OnMemory ℕ pop f ram rom v h ram n 2 → OnFile Unit (segment seg ≔ v) h tt g → OnMemory Unit (popSegment seg) f ram rom tt g ram n 2
-  unfolding popSegment
+  unfolding popSegment popInto
   pop-segment-is seg v h n p q = memory-last _ p q
 
   pub pop-psw-is : (v x : ℕ) (n : Bus) → OnMemory ℕ pop f ram rom v g ram n 2 → x ≡ pack (flagOf v) → OnMemory Unit popPsw f ram rom tt (set g PSW x) ram n 2

@@ -2,12 +2,14 @@
 use registers::PSW;
 use registers::SP;
 use registers::SS;
+use sheet::Address;
 use sheet::Bus;
 use sheet::Place;
 use sheet::Stack;
+ghost use Rattle.sheet.specs.declared.Place.the-variants.{Memory};
+ghost use Rattle.sheet.specs.Traps.{pushPsw};
 ghost use Rattle.sheet.specs.Stack as tree;
 ghost use Rattle.sheet.specs.Contract.{OnMemory};
-ghost use Rattle.do_stack.specs.Held.{pushHeld};
 
 // SP falls before the register is read.
 fn push_register(file: &mut [u16; 14], ram: &mut [u8], rom: &[u8], n: u8) -> Bus
@@ -20,10 +22,10 @@ fn push_register(file: &mut [u16; 14], ram: &mut [u8], rom: &[u8], n: u8) -> Bus
     memory::store(true, ram, ss, sp, v)
 }
 
-fn push_held(file: &mut [u16; 14], ram: &mut [u8], rom: &[u8], from: Place) -> Bus
-    ensures { λ r. ⌜ OnMemory Unit (pushHeld from) (now (file .entry)) (now (ram .entry)) (now (rom .entry)) tt (now (file .exit)) (now (ram .exit)) r 4 ⌝ }
+fn push_held(file: &mut [u16; 14], ram: &mut [u8], rom: &[u8], a: Address) -> Bus
+    ensures { λ r. ⌜ OnMemory Unit (tree.pushPlace (Memory a)) (now (file .entry)) (now (ram .entry)) (now (rom .entry)) tt (now (file .exit)) (now (ram .exit)) r 4 ⌝ }
 {
-    let v = operand::value_at(true, file, ram, rom, from);
+    let v = operand::value_at(true, file, ram, rom, Place::Memory(a));
     let b = traps::push(file, ram, rom, v.value);
     Bus {
         cycles: v.bus.cycles + b.cycles,
@@ -35,7 +37,7 @@ fn push_place(file: &mut [u16; 14], ram: &mut [u8], rom: &[u8], from: Place) -> 
 {
     match from {
         Place::Register(n) => push_register(file, ram, rom, n),
-        Place::Memory(a) => push_held(file, ram, rom, from),
+        Place::Memory(a) => push_held(file, ram, rom, a),
     }
 }
 
@@ -47,7 +49,7 @@ fn push_segment(file: &mut [u16; 14], ram: &mut [u8], rom: &[u8], seg: u8) -> Bu
 }
 
 fn push_psw(file: &mut [u16; 14], ram: &mut [u8], rom: &[u8]) -> Bus
-    ensures { λ r. ⌜ OnMemory Unit tree.pushPsw (now (file .entry)) (now (ram .entry)) (now (rom .entry)) tt (now (file .exit)) (now (ram .exit)) r 2 ⌝ }
+    ensures { λ r. ⌜ OnMemory Unit pushPsw (now (file .entry)) (now (ram .entry)) (now (rom .entry)) tt (now (file .exit)) (now (ram .exit)) r 2 ⌝ }
 {
     let x = word::word(file[PSW]);
     traps::push(file, ram, rom, x)

@@ -14,15 +14,14 @@ use Rattle.sheet.specs.Registers.{CW, fileOf}
 use Rattle.sheet.specs.World.{World}
 use Rattle.sheet.specs.Act.{pure, _>>=_}
 use Rattle.sheet.specs.Handler.{run, runBy}
-use Rattle.sheet.specs.Block.{primitive, element, repeated, block}
+use Rattle.sheet.specs.Block.{primitive, afterElement, element, repeated, block}
 use Rattle.sheet.specs.Contract.{exec, Ends, Stops, OnMemory}
 use Rattle.elements.specs.declared.Due.{Due}
-use Rattle.elements.specs.AfterElement.{afterElement}
 use Rattle.elements.specs.Due.{countedDue, dueOf, dueTree}
 
 -- an element is the primitive, and then what follows
 pub element-is : (k : Primitive) (w : Bool) (seg : ℕ) (q : Repeat) (start : ℕ) → element k w seg q start ≡ primitive k w seg >>= (λ _. afterElement k q start)
-unfolding element afterElement
+unfolding element
 element-is k w seg q start = refl
 
 chosen : (b : Bool) (k : Primitive) (w : Bool) (seg : ℕ) (q : Repeat) (start : ℕ) (v : World) (n : ℕ) → b ≡ eqb n 0

@@ -1,7 +1,7 @@
 -- What each return of the code comes to, over plain values.
 use Prim.Native.Nat.{ℕ}
 use mathlib.Core.Path.{_≡_}
-use mathlib.Core.Bool.{Bool, true, false, not, _||_}
+use mathlib.Core.Bool.{Bool, true, false, not, _&&_}
 use mathlib.Core.List.{List}
 use lib.Dec.{eqb}
 use lib.ListN.{getD, set}
@@ -13,14 +13,13 @@ use Rattle.sheet.specs.Width.{bytesOf, add16, sub16}
 use Rattle.sheet.specs.Psw.{Flag, DIR, flagOf}
 use Rattle.sheet.specs.Registers.{CW, IX, IY, DS1, PC, PSW, fileOf, written, segment}
 use Rattle.sheet.specs.Act.{pure, _>>=_, _≔_, flag}
-use Rattle.sheet.specs.Block.{stepIndex, sourceElement, targetElement, setTarget, goesOnAfter}
+use Rattle.sheet.specs.Branch.{countDown}
+use Rattle.sheet.specs.Block.{steppedOf, stepIndex, sourceElement, targetElement, setTarget, goesOnAfter, afterElement}
 use Rattle.sheet.specs.Contract.{OnFile, OnMemory}
 use Rattle.sheet.proofs.Lifted.{file-seq, file-pure, file-registers, file-set, file-flag, file-true, file-false, memory-free}
 use Rattle.memory.specs.Accesses.{Loads, Stores}
 use Rattle.elements.specs.declared.Due.the-variants.{Nothing, Element}
 use Rattle.elements.specs.Due.{countedDue}
-use Rattle.elements.specs.Stepped.{steppedOf}
-use Rattle.elements.specs.AfterElement.{afterElement}
 
 -- ---- the index registers
 
@@ -71,11 +70,15 @@ module _ (f : List ℕ) (k : Primitive) (q : Repeat) where
   after-known j b e h = rw e h
 
   module _ (start cw : ℕ) (on : Bool) where
-    pub stays : cw ≡ sub16 (getD f CW 0) 1 → OnFile Bool (goesOnAfter k q) (set f CW cw) on (set f CW cw) → (not on || eqb cw 0) ≡ true → OnFile Unit (afterElement k q start) f tt (set f CW cw)
-    unfolding afterElement
-    stays e h z = file-seq _ file-registers (rw (← e) (file-seq _ (file-set CW cw) (file-seq _ h (file-true (pure tt) (PC ≔ start) z file-pure))))
+    counts : cw ≡ sub16 (getD f CW 0) 1 → OnFile Bool countDown f (not (eqb cw 0)) (set f CW cw)
+    unfolding countDown
+    counts e = file-seq _ file-registers (rw (← e) (file-seq _ (file-set CW cw) file-pure))
 
-    pub goes-back : cw ≡ sub16 (getD f CW 0) 1 → OnFile Bool (goesOnAfter k q) (set f CW cw) on (set f CW cw) → (not on || eqb cw 0) ≡ false
+    pub goes-back : cw ≡ sub16 (getD f CW 0) 1 → OnFile Bool (goesOnAfter k q) (set f CW cw) on (set f CW cw) → (on && not (eqb cw 0)) ≡ true
         → OnFile Unit (afterElement k q start) f tt (set (set f CW cw) PC start)
     unfolding afterElement
-    goes-back e h z = file-seq _ file-registers (rw (← e) (file-seq _ (file-set CW cw) (file-seq _ h (file-false (pure tt) (PC ≔ start) z (file-set PC start)))))
+    goes-back e h z = file-seq _ (counts e) (file-seq _ h (file-true (PC ≔ start) (pure tt) z (file-set PC start)))
+
+    pub stays : cw ≡ sub16 (getD f CW 0) 1 → OnFile Bool (goesOnAfter k q) (set f CW cw) on (set f CW cw) → (on && not (eqb cw 0)) ≡ false → OnFile Unit (afterElement k q start) f tt (set f CW cw)
+    unfolding afterElement
+    stays e h z = file-seq _ (counts e) (file-seq _ h (file-false (PC ≔ start) (pure tt) z file-pure))

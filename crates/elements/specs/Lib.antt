@@ -1,3 +1,1 @@
-pub mod AfterElement
 pub mod Due
-pub mod Stepped

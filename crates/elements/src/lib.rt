@@ -15,15 +15,13 @@ ghost use Prim.Native.Nat.{ℕ};
 ghost use Rattle.sheet.specs.Registers as sheet;
 ghost use Rattle.sheet.specs.Block as tree;
 ghost use Rattle.sheet.specs.Contract.{OnFile, OnMemory};
-ghost use Rattle.elements.specs.Stepped.{steppedOf};
-ghost use Rattle.elements.specs.AfterElement.{afterElement};
 ghost use Rattle.elements.specs.Due.{countedDue, dueOf};
 
 // ---- the index registers
 
 // An index one element on.
 fn stepped(word: bool, down: bool, x: u16) -> u16
-    ensures { λ r. ⌜ r ≡ steppedOf word down x ⌝ }
+    ensures { λ r. ⌜ r ≡ tree.steppedOf word down x ⌝ }
 {
     let n = word::bytes(word);
     if down {
@@ -131,13 +129,12 @@ pub fn goes_on_after(file: &[u16; 14], primitive: Primitive, repeat: Repeat) -> 
 
 // What follows the primitive in an element: CW falls, and PC goes back unless the repeat ends.
 pub fn finish_element(file: &mut [u16; 14], primitive: Primitive, repeat: Repeat, start: u16)
-    ensures { λ _. ⌜ OnFile Unit (afterElement primitive repeat start) (now (file .entry)) tt (now (file .exit)) ⌝ }
+    ensures { λ _. ⌜ OnFile Unit (tree.afterElement primitive repeat start) (now (file .entry)) tt (now (file .exit)) ⌝ }
 {
     let cw = word::minus16(file[CW], 1);
     file[CW] = cw;
     let on = goes_on_after(file, primitive, repeat);
-    if !on | (cw == 0) {
-        return;
+    if on & (cw != 0) {
+        file[PC] = start;
     }
-    file[PC] = start;
 }

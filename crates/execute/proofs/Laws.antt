@@ -41,7 +41,8 @@ use Rattle.sheet.specs.Interrupts.{interrupts}
 use Rattle.sheet.specs.Block.{block}
 use Rattle.sheet.specs.Ports.{ports}
 use Rattle.sheet.specs.Control.{control}
-use Rattle.sheet.specs.Execute.{calculate, untrapped, multiply, convert, decimal, field, operation}
+use Rattle.sheet.specs.Traps.{untrapped}
+use Rattle.sheet.specs.Execute.{calculate, multiply, convert, decimal, field, operation}
 use Rattle.sheet.specs.Contract.{OnFile, OnMemory}
 use Rattle.sheet.proofs.Rules.{seq-last, seq-free, seq-stops, ends-pure}
 use Rattle.sheet.proofs.Lifted.{on-memory}

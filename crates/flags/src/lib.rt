@@ -92,7 +92,7 @@ pub fn pack(f: Flags) -> u16
     ensures { λ r. ⌜ r ≡ pack (held f) ⌝ }
 {
     61442
-        + digit(f.cy)
+        + 1 * digit(f.cy)
         + 4 * digit(f.p)
         + 16 * digit(f.ac)
         + 64 * digit(f.z)
@@ -107,5 +107,5 @@ pub fn pack(f: Flags) -> u16
 pub fn fixed(psw: u16) -> bool
     ensures { λ r. ⌜ r ≡ fixedOf psw ⌝ }
 {
-    (psw / 4096 == 15) & ((psw / 2 % 2 == 1) & ((psw / 8 % 2 == 0) & (psw / 32 % 2 == 0)))
+    psw == pack(unpack(psw))
 }

@@ -5,7 +5,8 @@ use mathlib.Core.List.{List}
 use lib.ListN.{getD, set}
 use Rattle.sheet.specs.Width.{add16}
 use Rattle.sheet.specs.Registers.{PS, PC}
-use Rattle.sheet.specs.Branch.{jump, jumpFar}
+use Rattle.sheet.specs.Traps.{jumpFar}
+use Rattle.sheet.specs.Branch.{jump}
 use Rattle.sheet.specs.Contract.{OnFile}
 use Rattle.sheet.proofs.Lifted.{file-seq, file-registers, file-set}
 

@@ -1,6 +1,7 @@
 // PC and PS set anew.
 use registers::PC;
 use registers::PS;
+ghost use Rattle.sheet.specs.Traps.{jumpFar};
 ghost use Rattle.sheet.specs.Branch as tree;
 ghost use Rattle.sheet.specs.Contract.{OnFile};
 
@@ -12,7 +13,7 @@ pub fn jump(file: &mut [u16; 14], disp: u16)
 }
 
 pub fn jump_far(file: &mut [u16; 14], ps: u16, pc: u16)
-    ensures { λ _. ⌜ OnFile Unit (tree.jumpFar ps pc) (now (file .entry)) tt (now (file .exit)) ⌝ }
+    ensures { λ _. ⌜ OnFile Unit (jumpFar ps pc) (now (file .entry)) tt (now (file .exit)) ⌝ }
 {
     file[PS] = ps;
     file[PC] = pc;

@@ -14,7 +14,7 @@ use Rattle.sheet.specs.declared.Instr.{Instr}
 use Rattle.sheet.specs.Width.{pick}
 use Rattle.sheet.specs.Reading.{Reading, got, _>>=_, Read, known, unknown, scan, byte}
 use Rattle.sheet.specs.Encoding.{modField, regField, memField, address, inMemory, place, memory, Row, lookUp}
-use Rattle.sheet.specs.SecondByte.{plainPlace, digit}
+use Rattle.sheet.specs.SecondByte.{plainPlace, withPlain}
 use Rattle.sheet.specs.FirstByte.{withPlace, withMemory}
 use Rattle.sheet.specs.Contract.{Reads, Refuses}
 use Rattle.sheet.proofs.ReadingLaws.{reads-seq, refuses-seq, reads-then-refuses, reads-allowed, refuses-allowed, scan-bind, thenRead}
@@ -95,12 +95,12 @@ module _ {p : Prefixes} {src : ℕ → ℕ} {i reg j : ℕ} {a : Place} (o : Ope
   unfolding plainPlace
   plain-refuses e = reads-then-refuses _ (o .code) (refuses-seq _ (refuses-allowed (ne-eqb (regField (o .m)) 0 (λ h. e (o .field ∙ h)))))
 
-  pub of-plain : (k : Place → Instr) {r : Decoded} → reg ≡ 0 → r ≡ Known (k a) j → Decodes (digit k p) src i r
-  unfolding digit
+  pub of-plain : (k : Place → Instr) {r : Decoded} → reg ≡ 0 → r ≡ Known (k a) j → Decodes (withPlain p k) src i r
+  unfolding withPlain
   of-plain k h e = decodes-seq _ (plain-reads h) (decodes-known e)
 
-  pub not-plain : (k : Place → Instr) → (reg ≡ 0 → ⊥) → Decodes (digit k p) src i (Unknown 3)
-  unfolding digit
+  pub not-plain : (k : Place → Instr) → (reg ≡ 0 → ⊥) → Decodes (withPlain p k) src i (Unknown 3)
+  unfolding withPlain
   not-plain k h = decodes-refused _ (plain-refuses h)
 
   -- the reg field chooses a row

@@ -6,12 +6,12 @@ use mathlib.Core.List.{List, [], _∷_, _++_}
 use mathlib.Core.Option.{Option, none, some}
 use lib.Dec.{eqb}
 use Rattle.sheet.specs.declared.Instr.{Instr}
-use Rattle.sheet.specs.Width.{pick, extend}
+use Rattle.sheet.specs.Width.{pick, signOf, extend}
 use Rattle.sheet.specs.Operand.{formAt}
 use Rattle.sheet.specs.Reading as reading
 use Rattle.sheet.specs.Reading.{Reading, got, need, no, word, immediate, signedByte, allow}
 use Rattle.sheet.specs.Encoding.{Prefix, prefixOf, unprefixed, formed, displacement, withDisplacement, withOffset, address, inMemory, place, memory, lookUp}
-use Rattle.sheet.specs.SecondByte.{plainPlace, bitInCl, bitGiven, fieldInRegister, fieldGiven, digit, secondBytes}
+use Rattle.sheet.specs.SecondByte.{plainPlace, withPlain, bitInCl, bitGiven, fieldInRegister, fieldGiven, secondBytes}
 use Rattle.sheet.specs.FirstByte.{withPlace, withMemory, operationAt, withAcc, smallImmediate, withImmediate, withShift, shiftGroup, groupF6, groupFE, groupFF, fromSegment, toSegment, afterTen, withByte, withWord, withShort, withFar, withCounted, firstBytes}
 
 -- 0 where the bytes name an instruction, else the refusal; all further bytes are 0
@@ -117,5 +117,5 @@ pub record Forms : Type 0 where
   pub second-total : total seconds ≡ record { accepted = 723; refused3 = 5143 }
 
 pub all-forms : Forms
-unfolding prefixes isPrefix prefixOf accepteds total countsOf codeCount below outcome lookUp reading._>>=_ word immediate signedByte allow formed displacement withDisplacement withOffset address inMemory place memory plainPlace bitInCl bitGiven fieldInRegister fieldGiven digit withPlace withMemory operationAt withAcc smallImmediate withImmediate withShift shiftGroup groupF6 groupFE groupFF fromSegment toSegment afterTen withByte withWord withShort withFar withCounted formAt extend
+unfolding prefixes isPrefix prefixOf accepteds total countsOf codeCount below outcome lookUp reading._>>=_ word immediate signedByte allow formed displacement withDisplacement withOffset address inMemory place memory plainPlace withPlain bitInCl bitGiven fieldInRegister fieldGiven withPlace withMemory operationAt withAcc smallImmediate withImmediate withShift shiftGroup groupF6 groupFE groupFF fromSegment toSegment afterTen withByte withWord withShort withFar withCounted formAt signOf extend
 all-forms = record { prefix-bytes = refl; first-bytes = refl; second-bytes = refl; first-total = refl; second-total = refl }

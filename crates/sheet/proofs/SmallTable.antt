@@ -15,14 +15,14 @@ use Rattle.sheet.specs.Act.{loop}
 use Rattle.sheet.specs.World.{World, world}
 use Rattle.sheet.specs.Handler.{runBy, tally}
 use Rattle.sheet.specs.Operand.{formAt, regValue, setReg, locate, fetch, deposit, valueAt, sourceValue, amountOf}
-use Rattle.sheet.specs.Traps.{push, save, trap}
-use Rattle.sheet.specs.Arithmetic.{resulting, sum, operate, conclude, two}
+use Rattle.sheet.specs.Traps.{push, pushPsw, pushPsPc, jumpFar, save, trap, untrapped}
+use Rattle.sheet.specs.Arithmetic.{resulting, sum, finish, operate, conclude, two}
 use Rattle.sheet.specs.Multiply.{stands, bitsOf, quoted, signedQuotient, dividend, setQuotient, divided, div}
-use Rattle.sheet.specs.Shift.{comesIn, toLeft, onePlace, manyPlaces, shifted, turned, shiftMany, carryIn, finish, shiftBy, shift}
-use Rattle.sheet.specs.Decimal.{adjusted, plain, digits, packedResult, adj4, link, string}
-use Rattle.sheet.specs.Fields.{replaced, lengthOf, advance, insertInto, ins}
+use Rattle.sheet.specs.Shift.{comesIn, toLeft, onePlace, manyPlaces, shifted, turned, shiftMany, carryIn, shiftBy, shift}
+use Rattle.sheet.specs.Decimal.{adjusted, plain, digits, packedResult, adj4, link, chained, string}
+use Rattle.sheet.specs.Fields.{replaced, lengthOf, advance, insertInto, firstPart, secondPart, ins}
 use Rattle.sheet.specs.Stack.{pushRegister, pushPlace, stack}
-use Rattle.sheet.specs.Execute.{calculate, untrapped, multiply, convert, decimal, field, operation, execute}
+use Rattle.sheet.specs.Execute.{calculate, multiply, convert, decimal, field, operation, execute}
 use Rattle.sheet.specs.Reading as reading
 use Rattle.sheet.specs.Reading.{scan, word, immediate, allow}
 use Rattle.sheet.specs.Encoding.{prefixOf, formed, address, inMemory, place, lookUp}
@@ -95,7 +95,7 @@ pub record SmallTable : Type 0 where
   pub number : groupsOf 3 300 ≡ 0xac ∷ 0x02 ∷ []
 
 pub small-table : SmallTable
-unfolding ones wrapOf signOf evenOf extend signedOf bits32 settled readReg regWord byteAt readMem writeMem busCycles groupsOf act._>>=_ loop runBy tally formAt regValue setReg locate fetch deposit valueAt sourceValue amountOf push save trap resulting sum operate conclude two stands bitsOf quoted signedQuotient dividend setQuotient divided div comesIn toLeft onePlace manyPlaces shifted turned shiftMany carryIn finish shiftBy shift adjusted plain digits packedResult adj4 link string replaced lengthOf advance insertInto Rattle.sheet.specs.Fields.ins pushRegister pushPlace stack calculate untrapped multiply convert decimal field operation execute reading._>>=_ scan word immediate allow prefixOf formed address inMemory place lookUp fieldGiven withAcc withPlace withShift shiftGroup groupF6 afterPrefix prefixed instruction fits sound singleStep stepping counted decoded awake stepBy step stepReport
+unfolding ones wrapOf signOf evenOf extend signedOf bits32 settled readReg regWord byteAt readMem writeMem busCycles groupsOf act._>>=_ loop runBy tally formAt regValue setReg locate fetch deposit valueAt sourceValue amountOf push pushPsw pushPsPc jumpFar save trap untrapped resulting sum finish operate conclude two stands bitsOf quoted signedQuotient dividend setQuotient divided div comesIn toLeft onePlace manyPlaces shifted turned shiftMany carryIn shiftBy shift adjusted plain digits packedResult adj4 link chained string replaced lengthOf advance insertInto firstPart secondPart Rattle.sheet.specs.Fields.ins pushRegister pushPlace stack calculate multiply convert decimal field operation execute reading._>>=_ scan word immediate allow prefixOf formed address inMemory place lookUp fieldGiven withAcc withPlace withShift shiftGroup groupF6 afterPrefix prefixed instruction fits sound singleStep stepping counted decoded awake stepBy step stepReport
 small-table = record {
   adj4a = refl;
   sub4s = refl;

@@ -76,6 +76,12 @@ sparingCy r =
 unfoldable pub complement : Bool → ℕ → ℕ
 complement w a = wrapOf w (131071 - a)
 
+-- flags first, then the value to where the operand stands
+unfoldable pub finish : Bool → Spot → Result → Act Unit
+finish w s r = do
+  affect (r .column)
+  deposit w s (r .value)
+
 -- ---- two operands
 
 -- ADDC and SUBC alone read CY
@@ -132,5 +138,4 @@ unfoldable pub one : Unary → Bool → Place → Act Unit
 one op w dst = do
   s ← locate dst
   a ← fetch w s
-  affect (unary op w a .column)
-  deposit w s (unary op w a .value)
+  finish w s (unary op w a)

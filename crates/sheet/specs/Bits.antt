@@ -1,6 +1,6 @@
 -- TEST1, CLR1, SET1, NOT1 on one bit of an operand.
 use mathlib.Core.Bool.{Bool, true, false, not}
-use Prim.Native.Nat.{ℕ, _+_, _*_, _/_, _%_, _^_}
+use Prim.Native.Nat.{ℕ, _%_, _^_}
 use Rattle.sheet.specs.declared.Bit.{Bit}
 use Rattle.sheet.specs.declared.Bit.the-variants.{Test1, Clr1, Set1, Not1}
 use Rattle.sheet.specs.declared.Place.{Place}
@@ -10,6 +10,7 @@ use Rattle.sheet.specs.Width.{pick}
 use Rattle.sheet.specs.Psw.{unknown, becomes, Column, columns, bit, at}
 use Rattle.sheet.specs.Act.{Act, _>>=_, _>>_, affect}
 use Rattle.sheet.specs.Operand.{locate, fetch, deposit, amountOf}
+use Rattle.sheet.specs.Fields.{replaced}
 
 -- a bit's number: the low 3 bits of what is given for a byte, the low 4 for a word
 unfoldable pub bitNumber : Bool → ℕ → ℕ
@@ -20,7 +21,7 @@ bitAt x n = at x (2 ^ n)
 
 -- x with bit n as given
 unfoldable pub withBit : ℕ → ℕ → Bool → ℕ
-withBit x n b = x / (2 * 2 ^ n) * (2 * 2 ^ n) + bit b * 2 ^ n + x % 2 ^ n
+withBit x n b = replaced x n 1 (bit b)
 
 -- TEST1: Z is 1 where the bit is 0
 unfoldable pub bitColumn : ℕ → ℕ → Column

@@ -1,6 +1,6 @@
 -- The block primitives, single and repeated.
 use Prim.Native.Nat.{ℕ}
-use mathlib.Core.Bool.{Bool, true, false, not, _||_}
+use mathlib.Core.Bool.{Bool, true, false, not, _&&_}
 use lib.Dec.{eqb}
 use Rattle.sheet.specs.declared.Primitive.{Primitive}
 use Rattle.sheet.specs.declared.Primitive.the-variants.{Movbk, Cmpbk, Cmpm, Ldm, Stm, Inm, Outm}
@@ -12,13 +12,18 @@ use Rattle.sheet.specs.Registers.{AW, CW, DW, IX, IY, DS1, PC, segment}
 use Rattle.sheet.specs.Act.{Act, pure, _>>=_, _>>_, registers, _≔_, flag, affect, peek, poke, inp, out}
 use Rattle.sheet.specs.Operand.{regValue, setReg}
 use Rattle.sheet.specs.Arithmetic.{difference}
+use Rattle.sheet.specs.Branch.{countDown}
+
+-- an index one element on
+unfoldable pub steppedOf : (word down : Bool) → ℕ → ℕ
+steppedOf w down x = pick down (sub16 x (bytesOf w)) (add16 x (bytesOf w))
 
 -- an index register goes up when DIR is 0, down when it is 1
 unfoldable pub stepIndex : Bool → ℕ → Act Unit
 stepIndex w n = do
   down ← flag DIR
   r ← registers
-  n ≔ pick down (sub16 (r n) (bytesOf w)) (add16 (r n) (bytesOf w))
+  n ≔ steppedOf w down (r n)
 
 -- the element due in the source block, in the target block
 unfoldable pub sourceElement : Bool → ℕ → Act ℕ
@@ -96,14 +101,17 @@ goesOnAfter Stm q = pure true
 goesOnAfter Inm q = pure true
 goesOnAfter Outm q = pure true
 
--- one element: CW falls by one, and PC goes back to the first prefix unless CW is now 0 or the comparison ends it
+-- after the primitive CW falls by one, and PC goes back to the first prefix unless CW is now 0 or the comparison ends it
+unfoldable pub afterElement : Primitive → Repeat → ℕ → Act Unit
+afterElement k q start = do
+  left ← countDown
+  on ← goesOnAfter k q
+  pick (on && left) (PC ≔ start) (pure tt)
+
 unfoldable pub element : Primitive → Bool → ℕ → Repeat → ℕ → Act Unit
 element k w seg q start = do
   primitive k w seg
-  r ← registers
-  CW ≔ sub16 (r CW) 1
-  on ← goesOnAfter k q
-  pick (not on || eqb (sub16 (r CW) 1) 0) (pure tt) (PC ≔ start)
+  afterElement k q start
 
 -- with CW = 0 nothing more is done
 unfoldable pub repeated : Primitive → Bool → ℕ → Repeat → ℕ → Act Unit

@@ -13,21 +13,16 @@ use Rattle.sheet.specs.declared.Conditional.{Conditional}
 use Rattle.sheet.specs.declared.Conditional.the-variants.{If, Dbnzne, Dbnze, Dbnz, Bcwz}
 use Rattle.sheet.specs.Width.{pick, odd, add16, sub16}
 use Rattle.sheet.specs.Psw.{Flag, CY, P, Z, S, OV}
-use Rattle.sheet.specs.Registers.{CW, SP, PS, PC}
+use Rattle.sheet.specs.Registers.{CW, SP, PC}
 use Rattle.sheet.specs.Act.{Act, pure, _>>=_, _>>_, registers, _≔_, flag, peek}
 use Rattle.sheet.specs.Operand.{baseOf, offsetOf, regValue, valueAt, pairAt}
-use Rattle.sheet.specs.Traps.{push, pop}
+use Rattle.sheet.specs.Traps.{push, pop, popInto, pushPsPc, jumpFar}
 
 -- PC <- PC + disp
 unfoldable pub jump : ℕ → Act Unit
 jump disp = do
   r ← registers
   PC ≔ add16 (r PC) disp
-
-unfoldable pub jumpFar : ℕ → ℕ → Act Unit
-jumpFar ps pc = do
-  PS ≔ ps
-  PC ≔ pc
 
 -- ---- CALL
 
@@ -54,9 +49,7 @@ callTo (Memory a) = do
 
 unfoldable pub callFar : ℕ → ℕ → Act Unit
 callFar ps pc = do
-  r ← registers
-  push (r PS)
-  push (r PC)
+  pushPsPc
   jumpFar ps pc
 
 unfoldable pub callFarAt : Address → Act Unit
@@ -73,9 +66,7 @@ release size = do
   SP ≔ add16 (r SP) size
 
 unfoldable pub ret : Act Unit
-ret = do
-  pc ← pop
-  PC ≔ pc
+ret = popInto PC
 
 unfoldable pub retPop : ℕ → Act Unit
 retPop size = do
@@ -147,10 +138,14 @@ lessOrEqual = do
 abbrev pub conditions : List (Act Bool)
 conditions = flag OV ∷ flag CY ∷ flag Z ∷ either CY Z ∷ flag S ∷ flag P ∷ unlike S OV ∷ lessOrEqual ∷ []
 
--- by the low four bits of 70 to 7F: the odd ones are the even ones denied
+-- what 70 to 7F ask by their low four bits, two codes alike
+unfoldable pub asked : ℕ → Act Bool
+asked n = getD conditions (n / 2 % 8) (pure false)
+
+-- the odd ones are the even ones denied
 unfoldable pub condition : ℕ → Act Bool
 condition n = do
-  b ← getD conditions (n / 2 % 8) (pure false)
+  b ← asked n
   pure (not (Bool·beq b (odd n)))
 
 unfoldable pub jumpIf : Bool → ℕ → Act Unit

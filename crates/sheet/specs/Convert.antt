@@ -1,8 +1,7 @@
 -- CVTBD, CVTDB, CVTBW, CVTWL.
-use mathlib.Core.Bool.{false}
+use mathlib.Core.Bool.{true, false}
 use Prim.Native.Nat.{ℕ, _+_, _*_, _/_, _%_}
-use lib.Dec.{ltb}
-use Rattle.sheet.specs.Width.{pick, extend}
+use Rattle.sheet.specs.Width.{pick, signOf, extend}
 use Rattle.sheet.specs.Psw.{unknown}
 use Rattle.sheet.specs.Registers.{AW, DW, AL, AH}
 use Rattle.sheet.specs.Act.{Act, _>>=_, _>>_, registers, _≔_, affect}
@@ -37,4 +36,4 @@ cvtbw = do
 unfoldable pub cvtwl : Act Unit
 cvtwl = do
   r ← registers
-  DW ≔ pick (ltb (r AW) 32768) 0 65535
+  DW ≔ pick (signOf true (r AW)) 65535 0

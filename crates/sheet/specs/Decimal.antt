@@ -3,6 +3,7 @@ use mathlib.Core.Bool.{Bool, true, false, _&&_, _||_}
 use Prim.Native.Nat.{ℕ, _+_, _*_, _/_, _%_}
 use lib.Dec.{eqb, ltb}
 use Rattle.sheet.specs.declared.Place.{Place}
+use Rattle.sheet.specs.declared.Spot.the-variants.{InRegister}
 use Rattle.sheet.specs.declared.Digits.{Digits}
 use Rattle.sheet.specs.declared.Chain.{Chain}
 use Rattle.sheet.specs.Width.{pick, add16}
@@ -10,7 +11,7 @@ use Rattle.sheet.specs.Psw.{AC, CY, bit, unknown, becomes, columns}
 use Rattle.sheet.specs.Registers.{AW, IX, IY, DS1, AL, CL, segment}
 use Rattle.sheet.specs.Act.{Act, pure, _>>=_, _>>_, registers, _≔_, flag, affect, peek, poke, loop}
 use Rattle.sheet.specs.Operand.{locate, fetch, deposit, regValue, setReg}
-use Rattle.sheet.specs.Arithmetic.{Result, resulting, added, halfCarry, carry, lessened, halfBorrow, borrow}
+use Rattle.sheet.specs.Arithmetic.{Result, resulting, finish, added, halfCarry, carry, lessened, halfBorrow, borrow}
 
 -- ---- one byte
 
@@ -49,8 +50,7 @@ adj4 sub = do
   x ← regValue false AL
   ac ← flag AC
   cy ← flag CY
-  affect (packedResult sub x ac cy .column)
-  setReg false AL (packedResult sub x ac cy .value)
+  finish false (InRegister AL) (packedResult sub x ac cy)
 
 -- ---- ADJBA and ADJBS (sub)
 
@@ -85,11 +85,19 @@ link sub stores seg i c = do
   pick stores (poke false (r DS1) (add16 (r IY) i) (digits sub a b (c .cy) .value)) (pure tt)
   pure (chainOf c (digits sub a b (c .cy)))
 
--- (CL + 1) div 2 bytes, lowest address first
+-- no carry comes in, and all results so far are zero
+abbrev pub begun : Chain
+begun = record { cy = false; zero = true }
+
+-- the first n bytes of the strings, lowest address first
+unfoldable pub chained : (sub stores : Bool) (seg n : ℕ) → Act Chain
+chained sub stores seg n = loop (link sub stores seg) n 0 begun
+
+-- (CL + 1) div 2 bytes
 unfoldable pub string : Bool → Bool → ℕ → Act Unit
 string sub stores seg = do
   n ← regValue false CL
-  c ← loop (link sub stores seg) ((n + 1) / 2) 0 (record { cy = false; zero = true })
+  c ← chained sub stores seg ((n + 1) / 2)
   affect (columns unknown (becomes (c .cy)) unknown unknown unknown (becomes (c .zero)))
 
 abbrev pub add4s : ℕ → Act Unit

@@ -15,7 +15,8 @@ use Rattle.sheet.specs.declared.Field.{Field}
 use Rattle.sheet.specs.declared.Field.the-variants.{Ins, Ext}
 use Rattle.sheet.specs.Width.{add16}
 use Rattle.sheet.specs.Registers.{PC}
-use Rattle.sheet.specs.Act.{Act, pure, _>>=_, _>>_, registers, _≔_}
+use Rattle.sheet.specs.Act.{Act, _>>=_, _>>_, registers, _≔_}
+use Rattle.sheet.specs.Traps.{untrapped}
 use Rattle.sheet.specs.Transfer.{transfer}
 use Rattle.sheet.specs.Arithmetic.{two, one, test}
 use Rattle.sheet.specs.Multiply.{mulu, mul, mulBy, divu, div}
@@ -35,12 +36,6 @@ unfoldable pub calculate : Arithmetic → Act Unit
 calculate (Two op w to from) = two op w to from
 calculate (One op w to) = one op w to
 calculate (Test w left right) = test w left right
-
--- an instruction that takes no trap
-unfoldable pub untrapped : Act Unit → Act Bool
-untrapped p = do
-  p
-  pure false
 
 unfoldable pub multiply : Multiply → Act Bool
 multiply (Mulu w by) = untrapped (mulu w by)

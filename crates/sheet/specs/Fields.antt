@@ -5,7 +5,7 @@ use lib.Dec.{leb, ltb}
 use Rattle.sheet.specs.declared.Length.{Length}
 use Rattle.sheet.specs.declared.Length.the-variants.{InRegister, Given}
 use Rattle.sheet.specs.Width.{pick, add16}
-use Rattle.sheet.specs.Registers.{AW, IX, IY, DS1, segment}
+use Rattle.sheet.specs.Registers.{AW, IX, IY, DS1, File, segment}
 use Rattle.sheet.specs.Act.{Act, pure, _>>=_, _>>_, registers, _≔_, peek, poke}
 use Rattle.sheet.specs.Operand.{regValue, setReg}
 
@@ -37,14 +37,21 @@ insertInto base offset at n v = do
   x ← peek true base offset
   poke true base offset (replaced x at n v)
 
+-- what goes into the word at IY, and what of the field lies beyond it and goes into the next
+unfoldable pub firstPart : File → (at n : ℕ) → Act Unit
+firstPart r at n = insertInto (r DS1) (r IY) at (min n (16 - at)) (r AW)
+
+unfoldable pub secondPart : File → (at n : ℕ) → Act Unit
+secondPart r at n = pick (ltb 16 (at + n)) (insertInto (r DS1) (add16 (r IY) 2) 0 (at + n - 16) (r AW / 2 ^ (16 - at))) (pure tt)
+
 unfoldable pub ins : ℕ → Length → Act Unit
 ins offset length = do
   o ← regValue false offset
   n ← lengthOf length
   r ← registers
   let at : ℕ = o % 16
-  insertInto (r DS1) (r IY) at (min n (16 - at)) (r AW)
-  pick (ltb 16 (at + n)) (insertInto (r DS1) (add16 (r IY) 2) 0 (at + n - 16) (r AW / 2 ^ (16 - at))) (pure tt)
+  firstPart r at n
+  secondPart r at n
   advance offset IY (at + n)
 
 -- the word at the source and, where the field goes beyond it, the next one above it

@@ -39,7 +39,7 @@ use Rattle.sheet.specs.Width.{pick}
 use Rattle.sheet.specs.Registers.{AW, inDs1, inPs, inSs, inDs0}
 use Rattle.sheet.specs.Reading.{Reading, got, no, _>>=_, _>>_, byte, word, immediate, signedByte, allow}
 use Rattle.sheet.specs.Encoding.{unprefixed, withPrefix, prefixOf, Prefix, segOr, regField, direct, place, memory, Row, row, lookUp, W, toRegister}
-use Rattle.sheet.specs.SecondByte.{plainPlace, secondBytes}
+use Rattle.sheet.specs.SecondByte.{plainPlace, withPlain, secondBytes}
 
 -- ---- what follows a first byte
 
@@ -127,27 +127,28 @@ groupF6 p n = do
       ∷ row 7 1 (λ k. do a ← place p m; got (Multiplies (Div (W n) a)))
       ∷ []) (regField m)
 
--- FE and FF by the reg field
+-- FE and FF by the reg field: both begin with INC and DEC
+abbrev pub incAndDec : Prefixes → ℕ → Bool → List Row
+incAndDec p m w =
+    row 0 1 (λ k. do a ← place p m; got (Calculates (calculates.One Inc w a)))
+    ∷ row 1 1 (λ k. do a ← place p m; got (Calculates (calculates.One Dec w a)))
+    ∷ []
+
 unfoldable pub groupFE : Prefixes → Reading Instr
 groupFE p = do
   m ← byte
-  lookUp (
-      row 0 1 (λ k. do a ← place p m; got (Calculates (calculates.One Inc false a)))
-      ∷ row 1 1 (λ k. do a ← place p m; got (Calculates (calculates.One Dec false a)))
-      ∷ []) (regField m)
+  lookUp (incAndDec p m false) (regField m)
 
 unfoldable pub groupFF : Prefixes → Reading Instr
 groupFF p = do
   m ← byte
-  lookUp (
-      row 0 1 (λ k. do a ← place p m; got (Calculates (calculates.One Inc true a)))
-      ∷ row 1 1 (λ k. do a ← place p m; got (Calculates (calculates.One Dec true a)))
-      ∷ row 2 1 (λ k. do a ← place p m; got (Branches (CallTo a)))
+  lookUp (incAndDec p m true ++ (
+      row 2 1 (λ k. do a ← place p m; got (Branches (CallTo a)))
       ∷ row 3 1 (λ k. do a ← memory p m; got (Branches (CallFarAt a)))
       ∷ row 4 1 (λ k. do a ← place p m; got (Branches (BrTo a)))
       ∷ row 5 1 (λ k. do a ← memory p m; got (Branches (BrFarAt a)))
       ∷ row 6 1 (λ k. do a ← place p m; got (Stacks (Push a)))
-      ∷ []) (regField m)
+      ∷ [])) (regField m)
 
 -- 8C and 8E: a reg field above 3 names no segment, and PS is not loaded
 unfoldable pub fromSegment : Prefixes → Reading Instr
@@ -267,9 +268,7 @@ bytes80 p =
     ∷ row 0x8c 1 (λ n. fromSegment p)
     ∷ row 0x8d 1 (λ n. withMemory p (λ reg a. Transfers (Ldea reg a)))
     ∷ row 0x8e 1 (λ n. toSegment p)
-    ∷ row 0x8f 1 (λ n. do
-      a ← plainPlace p
-      got (Stacks (Pop a)))
+    ∷ row 0x8f 1 (λ n. withPlain p (λ to. Stacks (Pop to)))
     ∷ row 0x90 1 (λ n. got (Controls Nop))
     ∷ row 0x91 7 (λ n. got (Transfers (Xch true (n + 1) (Register AW))))
     ∷ row 0x98 1 (converts Cvtbw)

@@ -5,12 +5,12 @@ use lib.Signed.{ltZ}
 use Rattle.sheet.specs.declared.Address.{Address}
 use Rattle.sheet.specs.declared.Interrupt.{Interrupt}
 use Rattle.sheet.specs.declared.Interrupt.the-variants.{Brk3, Brk, Brkv, Reti, Chkind}
-use Rattle.sheet.specs.Width.{pick, signedOf}
+use Rattle.sheet.specs.Width.{pick, halfOf, signedOf}
 use Rattle.sheet.specs.Psw.{OV}
 use Rattle.sheet.specs.Registers.{PS, PC}
 use Rattle.sheet.specs.Act.{Act, pure, _>>=_, _>>_, _≔_, flag, restore}
 use Rattle.sheet.specs.Operand.{regValue, pairAt}
-use Rattle.sheet.specs.Traps.{pop, trap}
+use Rattle.sheet.specs.Traps.{pop, trap, untrapped}
 
 unfoldable pub brk : ℕ → Act Bool
 brk v = do
@@ -36,7 +36,9 @@ reti = do
 
 -- the bounds are compared as signed numbers
 unfoldable pub outside : (v low high : ℕ) → Bool
-outside v low high = ltZ (signedOf 32768 v) (signedOf 32768 low) || ltZ (signedOf 32768 high) (signedOf 32768 v)
+outside v low high =
+    let h : ℕ = halfOf true in
+    ltZ (signedOf h v) (signedOf h low) || ltZ (signedOf h high) (signedOf h v)
 
 unfoldable pub chkind : ℕ → Address → Act Bool
 chkind reg from = do
@@ -48,7 +50,5 @@ unfoldable pub interrupts : Interrupt → Act Bool
 interrupts Brk3 = brk 3
 interrupts (Brk v) = brk v
 interrupts Brkv = brkv
-interrupts Reti = do
-  reti
-  pure false
+interrupts Reti = untrapped reti
 interrupts (Chkind reg from) = chkind reg from

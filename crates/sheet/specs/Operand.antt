@@ -46,7 +46,7 @@ indexOf r (Of n) = readReg true r n
 indexOf r Nothing = 0
 
 unfoldable pub formOffset : File → Form → ℕ → ℕ
-formOffset r f disp = (readReg true r (f .base) + indexOf r (f .index) + disp) % 65536
+formOffset r f disp = add16 (readReg true r (f .base) + indexOf r (f .index)) disp
 
 -- an address's offset, and the word of its segment register
 unfoldable pub offsetOf : File → Address → ℕ

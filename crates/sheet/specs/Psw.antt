@@ -1,6 +1,6 @@
 -- PSW as flags and as 16 bits, and what an instruction does to it: a column of Table 8-4.
-use mathlib.Core.Bool.{Bool, false, _&&_}
-use Prim.Native.Nat.{ℕ, _+_, _*_, _/_, _%_}
+use mathlib.Core.Bool.{Bool, false}
+use Prim.Native.Nat.{ℕ, _+_, _*_, _/_}
 use lib.Dec.{eqb}
 use mir.Val.{boolByte}
 use Rattle.sheet.specs.Width.{pick, odd}
@@ -35,12 +35,12 @@ flagOf x f = at x (weight f)
 -- PSW with these flags: bits 1 and 12 to 15 are one, 3 and 5 zero
 abbrev pub pack : (Flag → Bool) → ℕ
 pack g =
-    61442 + bit (g CY) + 4 * bit (g P) + 16 * bit (g AC) + 64 * bit (g Z) + 128 * bit (g S) + 256 * bit (g BRK)
-    + 512 * bit (g IE) + 1024 * bit (g DIR) + 2048 * bit (g OV)
+    0xf002 + weight CY * bit (g CY) + weight P * bit (g P) + weight AC * bit (g AC) + weight Z * bit (g Z) + weight S * bit (g S)
+    + weight BRK * bit (g BRK) + weight IE * bit (g IE) + weight DIR * bit (g DIR) + weight OV * bit (g OV)
 
--- the fixed bits are as they must be
+-- the fixed bits are as they must be: packed again, the flags of x make x
 abbrev pub fixedOf : ℕ → Bool
-fixedOf x = eqb (x / 4096) 15 && (at x 2 && (eqb (x / 8 % 2) 0 && eqb (x / 32 % 2) 0))
+fixedOf x = eqb x (pack (flagOf x))
 
 -- what the sheet prints for one flag: nothing, U, or a value (0, 1, by the result, or R)
 pub data Effect : Type 0 where

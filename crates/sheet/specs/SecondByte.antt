@@ -18,17 +18,21 @@ use Rattle.sheet.specs.Registers.{inDs0}
 use Rattle.sheet.specs.Reading.{Reading, got, _>>=_, _>>_, byte, allow}
 use Rattle.sheet.specs.Encoding.{segOr, modField, regField, memField, place, Row, row, W}
 
--- a byte whose reg field must be 0
+-- an operand whose reg field must be 0
 unfoldable pub plainPlace : Prefixes → Reading Place
 plainPlace p = do
   m ← byte
   allow (eqb (regField m) 0)
   place p m
 
-unfoldable pub bitInCl : Prefixes → Bit → ℕ → Reading Instr
-bitInCl p op n = do
+-- such an operand, and nothing behind it
+unfoldable pub withPlain : Prefixes → (Place → Instr) → Reading Instr
+withPlain p k = do
   to ← plainPlace p
-  got (Bits op (W n) to InCl)
+  got (k to)
+
+unfoldable pub bitInCl : Prefixes → Bit → ℕ → Reading Instr
+bitInCl p op n = withPlain p (λ to. Bits op (W n) to InCl)
 
 unfoldable pub bitGiven : Prefixes → Bit → ℕ → Reading Instr
 bitGiven p op n = do
@@ -51,11 +55,6 @@ fieldGiven k = do
   n ← byte
   k (memField m) (length.Given n)
 
-unfoldable pub digit : (Place → Instr) → Prefixes → Reading Instr
-digit k p = do
-  to ← plainPlace p
-  got (k to)
-
 abbrev pub secondBytes : Prefixes → List Row
 secondBytes p =
     row 0x10 2 (bitInCl p Test1)
@@ -69,8 +68,8 @@ secondBytes p =
     ∷ row 0x20 1 (λ n. got (Decimals (Add4s (segOr (p .seg) inDs0))))
     ∷ row 0x22 1 (λ n. got (Decimals (Sub4s (segOr (p .seg) inDs0))))
     ∷ row 0x26 1 (λ n. got (Decimals (Cmp4s (segOr (p .seg) inDs0))))
-    ∷ row 0x28 1 (λ n. digit (λ to. Decimals (Rol4 to)) p)
-    ∷ row 0x2a 1 (λ n. digit (λ to. Decimals (Ror4 to)) p)
+    ∷ row 0x28 1 (λ n. withPlain p (λ to. Decimals (Rol4 to)))
+    ∷ row 0x2a 1 (λ n. withPlain p (λ to. Decimals (Ror4 to)))
     ∷ row 0x31 1 (λ n. fieldInRegister (λ o l. got (Fields (Ins o l))))
     ∷ row 0x33 1 (λ n. fieldInRegister (λ o l. got (Fields (Ext (segOr (p .seg) inDs0) o l))))
     ∷ row 0x39 1 (λ n. fieldGiven (λ o l. got (Fields (Ins o l))))

@@ -10,9 +10,9 @@ use Rattle.sheet.specs.declared.Place.{Place}
 use Rattle.sheet.specs.declared.Spot.{Spot}
 use Rattle.sheet.specs.Width.{pick, halfOf, wrapOf, signOf, odd}
 use Rattle.sheet.specs.Psw.{CY, bit, Effect, blank, unknown, becomes, columns}
-use Rattle.sheet.specs.Act.{Act, pure, _>>=_, _>>_, flag, affect}
+use Rattle.sheet.specs.Act.{Act, pure, _>>=_, _>>_, flag}
 use Rattle.sheet.specs.Operand.{locate, fetch, deposit, amountOf}
-use Rattle.sheet.specs.Arithmetic.{Result, resulting}
+use Rattle.sheet.specs.Arithmetic.{Result, resulting, finish}
 
 abbrev pub turn : ℕ → Bool → Turn
 turn x cy = record { value = x; cy = cy }
@@ -92,11 +92,6 @@ carryIn Rorc = flag CY
 carryIn Shl = pure false
 carryIn Shr = pure false
 carryIn Shra = pure false
-
-unfoldable pub finish : Bool → Spot → Result → Act Unit
-finish w s r = do
-  affect (r .column)
-  deposit w s (r .value)
 
 -- count 0 changes no flag; the operand is read and written all the same
 unfoldable pub shiftBy : Shift → Bool → Spot → ℕ → ℕ → Act Unit

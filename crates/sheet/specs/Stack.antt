@@ -1,15 +1,15 @@
 -- PUSH, POP, PREPARE, DISPOSE.
-use Prim.Native.Nat.{ℕ, zero, suc, _%_}
+use Prim.Native.Nat.{ℕ, zero, suc}
 use mathlib.Core.Bool.{true}
 use Rattle.sheet.specs.declared.Place.{Place}
 use Rattle.sheet.specs.declared.Place.the-variants.{Register, Memory}
 use Rattle.sheet.specs.declared.Stack.{Stack}
 use Rattle.sheet.specs.declared.Stack.the-variants.{Push, PushByte, PushWord, PushSegment, PushPsw, PushR, Pop, PopSegment, PopPsw, PopR, Prepare, Dispose}
 use Rattle.sheet.specs.Width.{sub16}
-use Rattle.sheet.specs.Registers.{AW, CW, DW, BW, SP, BP, IX, IY, SS, segment}
-use Rattle.sheet.specs.Act.{Act, pure, _>>=_, _>>_, registers, _≔_, psw, restore, peek, poke, loop}
+use Rattle.sheet.specs.Registers.{AW, CW, DW, BW, SP, BP, IX, IY, SS, segment, readReg}
+use Rattle.sheet.specs.Act.{Act, pure, _>>=_, _>>_, registers, _≔_, restore, peek, poke, loop}
 use Rattle.sheet.specs.Operand.{locate, deposit, valueAt}
-use Rattle.sheet.specs.Traps.{push, pop}
+use Rattle.sheet.specs.Traps.{push, pop, popInto, pushPsw}
 
 -- of SP the lowered value is stored: SP falls before the register is read
 unfoldable pub pushRegister : ℕ → Act Unit
@@ -17,7 +17,7 @@ pushRegister n = do
   r ← registers
   SP ≔ sub16 (r SP) 2
   q ← registers
-  poke true (q SS) (q SP) (q (n % 8))
+  poke true (q SS) (q SP) (readReg true q n)
 
 unfoldable pub pushPlace : Place → Act Unit
 pushPlace (Register n) = pushRegister n
@@ -29,11 +29,6 @@ unfoldable pub pushSegment : ℕ → Act Unit
 pushSegment seg = do
   r ← registers
   push (r (segment seg))
-
-unfoldable pub pushPsw : Act Unit
-pushPsw = do
-  x ← psw true
-  push x
 
 -- PUSH R: of SP the value from before
 unfoldable pub pushR : Act Unit
@@ -55,19 +50,12 @@ popPlace to = do
   deposit true s v
 
 unfoldable pub popSegment : ℕ → Act Unit
-popSegment seg = do
-  v ← pop
-  segment seg ≔ v
+popSegment seg = popInto (segment seg)
 
 unfoldable pub popPsw : Act Unit
 popPsw = do
   x ← pop
   restore x
-
-unfoldable pub popInto : ℕ → Act Unit
-popInto n = do
-  v ← pop
-  n ≔ v
 
 -- POP R: the word that stands for SP is read and dropped
 unfoldable pub popR : Act Unit
@@ -109,8 +97,7 @@ unfoldable pub dispose : Act Unit
 dispose = do
   r ← registers
   SP ≔ r BP
-  v ← pop
-  BP ≔ v
+  popInto BP
 
 unfoldable pub stack : Stack → Act Unit
 stack (Push from) = pushPlace from

@@ -26,11 +26,13 @@ use Rattle.sheet.specs.Execute.{execute}
 unfoldable pub fits : World → Bool
 fits w = leb (length (w .ram) + length (w .rom)) 1048576
 
+-- places and count
+abbrev pub placesGood : State → List ℕ → List ℕ → Bool
+placesGood s tape log = leb (s .tape) (length tape) && (leb (s .log) (length log) && leb (s .count) (rule .ceiling))
+
 -- number 2 is given where this fails: fixed bits of PSW, places, count
 unfoldable pub sound : World → Bool
-sound w =
-    fixedOf (pswOf (w .state))
-    && (leb (w .state .tape) (length (w .tape)) && (leb (w .state .log) (length (w .log)) && leb (w .state .count) (rule .ceiling)))
+sound w = fixedOf (pswOf (w .state)) && placesGood (w .state) (w .tape) (w .log)
 
 -- the first of two refusals that is due, or what comes then
 abbrev pub checked : {A : Type 0} → World → (ℕ → A) → A → A

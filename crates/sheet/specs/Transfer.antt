@@ -1,16 +1,18 @@
 -- MOV, LDEA, TRANS, XCH.
-use Prim.Native.Nat.{ℕ, _%_}
+use Prim.Native.Nat.{ℕ}
 use mathlib.Core.Bool.{Bool, true, false}
 use Rattle.sheet.specs.declared.Address.{Address}
 use Rattle.sheet.specs.declared.Place.{Place}
+use Rattle.sheet.specs.declared.Place.the-variants.{Register, Memory}
 use Rattle.sheet.specs.declared.Source.{Source}
+use Rattle.sheet.specs.declared.Source.the-variants.{Held}
 use Rattle.sheet.specs.declared.Transfer.{Transfer}
 use Rattle.sheet.specs.declared.Transfer.the-variants.{Mov, LoadAcc, StoreAcc, ToSegment, FromSegment, LoadPointer, AhFromPsw, PswFromAh, Ldea, Trans, Xch}
 use Rattle.sheet.specs.Width.{add16}
 use Rattle.sheet.specs.Psw.{CY, P, AC, Z, S, flagOf, blank, becomes, Column, columns}
-use Rattle.sheet.specs.Registers.{AW, BW, AL, AH, segment}
-use Rattle.sheet.specs.Act.{Act, _>>=_, _>>_, registers, _≔_, psw, affect, peek, poke}
-use Rattle.sheet.specs.Operand.{baseOf, offsetOf, locate, fetch, deposit, valueAt, sourceValue, regValue, setReg, pairAt}
+use Rattle.sheet.specs.Registers.{AW, BW, AL, AH, segment, readReg}
+use Rattle.sheet.specs.Act.{Act, _>>=_, _>>_, registers, _≔_, psw, affect, peek}
+use Rattle.sheet.specs.Operand.{offsetOf, locate, fetch, deposit, valueAt, sourceValue, regValue, setReg, pairAt}
 
 unfoldable pub mov : Bool → Place → Source → Act Unit
 mov w to from = do
@@ -20,16 +22,10 @@ mov w to from = do
 
 -- MOV acc,dmem and MOV dmem,acc
 unfoldable pub loadAcc : Bool → Address → Act Unit
-loadAcc w from = do
-  r ← registers
-  v ← peek w (baseOf r from) (offsetOf r from)
-  setReg w AW v
+loadAcc w from = mov w (Register AW) (Held (Memory from))
 
 unfoldable pub storeAcc : Bool → Address → Act Unit
-storeAcc w to = do
-  v ← regValue w AW
-  r ← registers
-  poke w (baseOf r to) (offsetOf r to) v
+storeAcc w to = mov w (Memory to) (Held (Register AW))
 
 -- MOV sreg,reg16 or mem16, and back
 unfoldable pub toSegment : ℕ → Place → Act Unit
@@ -75,7 +71,7 @@ ldea reg from = do
 unfoldable pub trans : ℕ → Act Unit
 trans seg = do
   r ← registers
-  v ← peek false (r (segment seg)) (add16 (r BW) (r AW % 256))
+  v ← peek false (r (segment seg)) (add16 (r BW) (readReg false r AL))
   setReg false AL v
 
 unfoldable pub xch : Bool → ℕ → Place → Act Unit

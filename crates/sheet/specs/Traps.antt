@@ -1,6 +1,6 @@
--- Traps: what BRK, a division, CHKIND, the single step and an interrupt call do alike.
+-- Words on the stack, far jumps, and traps: what BRK, a division, CHKIND, the single step and an interrupt call do alike.
 use Prim.Native.Nat.{ℕ, _+_, _*_}
-use mathlib.Core.Bool.{true}
+use mathlib.Core.Bool.{Bool, true, false}
 use Rattle.sheet.specs.Width.{add16, sub16}
 use Rattle.sheet.specs.Registers.{SP, SS, PS, PC}
 use Rattle.sheet.specs.Act.{Act, pure, _>>=_, _>>_, registers, _≔_, psw, clearIeBrk, peek, poke}
@@ -20,20 +20,44 @@ pop = do
   SP ≔ add16 (r SP) 2
   pure v
 
--- PSW, PS and the PC then due go onto the stack
-unfoldable pub save : Act Unit
-save = do
+-- register n takes the word that is popped
+unfoldable pub popInto : ℕ → Act Unit
+popInto n = do
+  v ← pop
+  n ≔ v
+
+unfoldable pub pushPsw : Act Unit
+pushPsw = do
   x ← psw true
   push x
-  clearIeBrk
+
+unfoldable pub pushPsPc : Act Unit
+pushPsPc = do
   r ← registers
   push (r PS)
   push (r PC)
+
+unfoldable pub jumpFar : ℕ → ℕ → Act Unit
+jumpFar ps pc = do
+  PS ≔ ps
+  PC ≔ pc
+
+-- PSW, PS and the PC then due go onto the stack
+unfoldable pub save : Act Unit
+save = do
+  pushPsw
+  clearIeBrk
+  pushPsPc
 
 unfoldable pub trap : ℕ → Act Unit
 trap v = do
   pc ← peek true 0 (4 * v)
   ps ← peek true 0 (4 * v + 2)
   save
-  PS ≔ ps
-  PC ≔ pc
+  jumpFar ps pc
+
+-- an instruction that takes no trap hands on that it took none
+unfoldable pub untrapped : Act Unit → Act Bool
+untrapped p = do
+  p
+  pure false

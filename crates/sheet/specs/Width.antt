@@ -1,5 +1,5 @@
 -- The two widths of an operand: the sheet's bit W, true for a word and false for a byte. Each rule is one definition over it.
-use mathlib.Core.Bool.{Bool, true, false}
+use mathlib.Core.Bool.{Bool, true, false, not}
 use Prim.Native.Nat.{ℕ, _+_, _-_, _*_, _%_}
 use lib.Dec.{eqb, leb, ltb}
 use lib.Count.{ones}
@@ -21,7 +21,7 @@ halfOf w = pick w 32768 128
 
 -- the low 16 or 8 bits
 unfoldable pub wrapOf : Bool → ℕ → ℕ
-wrapOf w x = pick w (x % 65536) (x % 256)
+wrapOf w x = x % modOf w
 
 -- the sign, bit 15 or 7
 unfoldable pub signOf : Bool → ℕ → Bool
@@ -33,7 +33,7 @@ odd n = eqb (n % 2) 1
 
 -- the low byte has an even count of ones
 unfoldable pub evenOf : ℕ → Bool
-evenOf x = eqb (ones (x % 256) % 2) 0
+evenOf x = not (odd (ones (x % 256)))
 
 -- 16-bit sums and differences wrap
 abbrev pub add16 : ℕ → ℕ → ℕ
@@ -44,7 +44,7 @@ sub16 a b = (a + 65536 - b) % 65536
 
 -- a byte widened to a word with its sign
 unfoldable pub extend : ℕ → ℕ
-extend b = pick (ltb b 128) b (b + 65280)
+extend b = pick (signOf false b) (b + 65280) b
 
 -- the number that x stands for in two's complement, where h is half of all values
 unfoldable pub signedOf : ℕ → ℕ → ℤ

@@ -17,23 +17,23 @@ use Rattle.sheet.specs.declared.Instr.{Instr}
 use Rattle.sheet.specs.Width.{pick}
 use Rattle.sheet.specs.Reading.{Reading, got, _>>=_}
 use Rattle.sheet.specs.Encoding.{Prefix, unprefixed, withPrefix, regField, place, memory, Row, toRegister}
-use Rattle.sheet.specs.SecondByte.{bitInCl, bitGiven, fieldInRegister, fieldGiven, digit, secondBytes}
+use Rattle.sheet.specs.SecondByte.{withPlain, bitInCl, bitGiven, fieldInRegister, fieldGiven, secondBytes}
 use Rattle.sheet.specs.FirstByte.{sixCodes, smallImmediate, withImmediate, withShift, shiftGroup, groupF6, groupFE, groupFF, fromSegment, toSegment, afterTen, withCounted, bytes00, bytes40, bytes80, bytesC0, firstBytes, afterPrefix, prefixed, instruction}
 use Rattle.theorems.proofs.BoundsReading.{Leaf, bind, either, Any, some-leaf, unknown-code, of-byte, of-word, any-byte, of-immediate, of-signedByte, of-allow, of-place, of-memory, of-plainPlace, Fine, ok, of-withPlace, of-withMemory, of-withAcc, of-withByte, of-withWord, of-withShort, of-withFar, Rows, of-lookUp, both, leaf, stop, none-more, _also_}
 
 -- ---- the codes after 0F
 
+of-withPlain : (p : Prefixes) (k : Place → Instr) → ((a : Place) → Fine (k a)) → Leaf Fine (withPlain p k)
+unfolding withPlain
+of-withPlain p k h = bind (of-plainPlace p) λ a _. leaf (h a)
+
 of-bitInCl : (p : Prefixes) (op : Bit) (n : ℕ) → Leaf Fine (bitInCl p op n)
 unfolding bitInCl
-of-bitInCl p op n = bind (of-plainPlace p) λ a _. leaf ok
+of-bitInCl p op n = of-withPlain p _ λ a. ok
 
 of-bitGiven : (p : Prefixes) (op : Bit) (n : ℕ) → Leaf Fine (bitGiven p op n)
 unfolding bitGiven
 of-bitGiven p op n = bind (of-plainPlace p) λ a _. bind of-byte λ b _. leaf ok
-
-of-digit : (p : Prefixes) (k : Place → Instr) → ((a : Place) → Fine (k a)) → Leaf Fine (digit k p)
-unfolding digit
-of-digit p k h = bind (of-plainPlace p) λ a _. leaf (h a)
 
 of-fieldInRegister : (k : ℕ → Length → Reading Instr) → ((o : ℕ) (l : Length) → Leaf Fine (k o l)) → Leaf Fine (fieldInRegister k)
 unfolding fieldInRegister
@@ -56,8 +56,8 @@ of-secondBytes p =
     also (λ n. leaf ok)
     also (λ n. leaf ok)
     also (λ n. leaf ok)
-    also (λ n. of-digit p _ λ a. ok)
-    also (λ n. of-digit p _ λ a. ok)
+    also (λ n. of-withPlain p _ λ a. ok)
+    also (λ n. of-withPlain p _ λ a. ok)
     also (λ n. of-fieldInRegister _ λ o l. leaf ok)
     also (λ n. of-fieldInRegister _ λ o l. leaf ok)
     also (λ n. of-fieldGiven _ λ o l. leaf ok)
@@ -185,7 +185,7 @@ of-bytes80 p =
     also (λ n. of-fromSegment p)
     also (λ n. of-withMemory p _ λ reg a. ok)
     also (λ n. of-toSegment p)
-    also (λ n. bind (of-plainPlace p) λ a _. leaf ok)
+    also (λ n. of-withPlain p _ λ a. ok)
     also (λ n. leaf ok)
     also (λ n. leaf ok)
     also (λ n. leaf ok)

@@ -1,6 +1,6 @@
 -- Bounds on the other groups: stack, branches, interrupts, block primitives, ports, control.
 use Prim.Native.Nat.{ℕ, zero, suc, _+_, _*_, _/_, _%_, _≤_}
-use mathlib.Core.Bool.{Bool, true, false, not, _||_}
+use mathlib.Core.Bool.{Bool, true, false, _&&_}
 use mathlib.Core.List.{List, [], _∷_}
 use native.Mathlib.Omega.{arith}
 use lib.ListN.{getD}
@@ -25,17 +25,17 @@ use Rattle.sheet.specs.declared.Io.{Io}
 use Rattle.sheet.specs.declared.Io.the-variants.{In, Out}
 use Rattle.sheet.specs.declared.Control.{Control}
 use Rattle.sheet.specs.declared.Control.the-variants.{Nop, Halt, Di, Ei, ClrCy, SetCy, NotCy, ClrDir, SetDir}
-use Rattle.sheet.specs.Width.{sub16}
 use Rattle.sheet.specs.Registers.{CW}
 use Rattle.sheet.specs.Act.{Act, pure}
-use Rattle.sheet.specs.Stack.{pushRegister, pushPlace, pushSegment, pushPsw, pushR, popPlace, popSegment, popPsw, popInto, popR, frame, frames, prepare, dispose, stack}
-use Rattle.sheet.specs.Branch.{jump, jumpFar, pushPc, callNear, callTo, callFar, callFarAt, release, ret, retPop, retFar, retFarPop, brTo, brFarAt, branch, lessOrEqual, conditions, condition, jumpIf, branchIf, countDown, dbnzWhile, dbnz, bcwz, conditional}
+use Rattle.sheet.specs.Stack.{pushRegister, pushPlace, pushSegment, pushR, popPlace, popSegment, popPsw, popR, frame, frames, prepare, dispose, stack}
+use Rattle.sheet.specs.Branch.{jump, pushPc, callNear, callTo, callFar, callFarAt, release, ret, retPop, retFar, retFarPop, brTo, brFarAt, branch, lessOrEqual, conditions, asked, condition, jumpIf, branchIf, countDown, dbnzWhile, dbnz, bcwz, conditional}
+use Rattle.sheet.specs.Traps.{untrapped}
 use Rattle.sheet.specs.Interrupts.{brk, trapIf, brkv, reti, chkind, interrupts}
-use Rattle.sheet.specs.Block.{stepIndex, sourceElement, targetElement, setTarget, primitive, goesOn, goesOnAfter, element, repeated, block}
+use Rattle.sheet.specs.Block.{stepIndex, sourceElement, targetElement, setTarget, primitive, goesOn, goesOnAfter, afterElement, element, repeated, block}
 use Rattle.sheet.specs.Ports.{portNumber, ports}
 use Rattle.sheet.specs.Control.{control}
-use Rattle.theorems.proofs.BoundsRules.{Most, seq, up, either-way, of-pure, of-registers, of-set, of-flag, of-psw, of-flags, of-halted, of-peek, of-poke, of-inp, of-out, of-loop}
-use Rattle.theorems.proofs.BoundsOperands.{of-regValue, of-setReg, of-locate, of-deposit, of-valueAt, of-pairAt, of-push, of-pop, of-trap}
+use Rattle.theorems.proofs.BoundsRules.{Most, seq, up, either-way, of-pure, of-registers, of-set, of-flag, of-flags, of-halted, of-peek, of-poke, of-inp, of-out, of-loop}
+use Rattle.theorems.proofs.BoundsOperands.{of-regValue, of-setReg, of-locate, of-deposit, of-valueAt, of-pairAt, of-push, of-pop, of-popInto, of-pushPsw, of-pushPsPc, of-jumpFar, of-trap}
 
 -- ---- the stack
 
@@ -48,10 +48,6 @@ of-pushR : Most Unit pushR 16
 unfolding pushR
 of-pushR =
     seq of-registers λ r. seq (of-push _) λ _. seq (of-push _) λ _. seq (of-push _) λ _. seq (of-push _) λ _. seq (of-push _) λ _. seq (of-push _) λ _. seq (of-push _) λ _. of-push _
-
-of-popInto : (n : ℕ) → Most Unit (popInto n) 2
-unfolding popInto
-of-popInto n = seq of-pop λ v. of-set
 
 of-popR : Most Unit popR 16
 unfolding popR
@@ -90,29 +86,25 @@ levelOf (Prepare size level) = level
 levelOf Dispose = 0
 
 pub of-stack : (i : Stack) → levelOf i ≤ 255 → Most Unit (stack i) 1020
-unfolding stack pushSegment pushPsw popPlace popSegment popPsw dispose
+unfolding stack pushSegment popPlace popSegment popPsw dispose
 of-stack (Push from) h = up (lit≤ tt) (of-pushPlace from)
 of-stack (PushByte v) h = up (lit≤ tt) (of-push v)
 of-stack (PushWord v) h = up (lit≤ tt) (of-push v)
 of-stack (PushSegment seg) h = up (lit≤ tt) (seq of-registers λ r. of-push _)
-of-stack PushPsw h = up (lit≤ tt) (seq of-psw λ x. of-push x)
+of-stack PushPsw h = up (lit≤ tt) of-pushPsw
 of-stack PushR h = up (lit≤ tt) of-pushR
 of-stack (Pop to) h = up (lit≤ tt) (seq of-pop λ v. seq (of-locate to) λ s. of-deposit true s v)
-of-stack (PopSegment seg) h = up (lit≤ tt) (seq of-pop λ v. of-set)
+of-stack (PopSegment seg) h = up (lit≤ tt) (of-popInto _)
 of-stack PopPsw h = up (lit≤ tt) (seq of-pop λ x. of-flags)
 of-stack PopR h = up (lit≤ tt) of-popR
 of-stack (Prepare size level) h = of-prepare size level h
-of-stack Dispose h = up (lit≤ tt) (seq of-registers λ r. seq of-set λ _. seq of-pop λ v. of-set)
+of-stack Dispose h = up (lit≤ tt) (seq of-registers λ r. seq of-set λ _. of-popInto _)
 
 -- ---- CALL, RET, BR
 
 of-jump : (disp : ℕ) → Most Unit (jump disp) 0
 unfolding jump
 of-jump disp = seq of-registers λ r. of-set
-
-of-jumpFar : (ps pc : ℕ) → Most Unit (jumpFar ps pc) 0
-unfolding jumpFar
-of-jumpFar ps pc = seq of-set λ _. of-set
 
 of-pushPc : Most Unit pushPc 2
 unfolding pushPc
@@ -125,7 +117,7 @@ of-callTo (Memory a) = seq (of-valueAt true (Memory a)) λ v. seq of-pushPc λ _
 
 of-callFar : (ps pc : ℕ) → Most Unit (callFar ps pc) 4
 unfolding callFar
-of-callFar ps pc = seq of-registers λ r. seq (of-push _) λ _. seq (of-push _) λ _. of-jumpFar ps pc
+of-callFar ps pc = seq of-pushPsPc λ _. of-jumpFar ps pc
 
 of-release : (size : ℕ) → Most Unit (release size) 0
 unfolding release
@@ -133,7 +125,7 @@ of-release size = seq of-registers λ r. of-set
 
 of-ret : Most Unit ret 2
 unfolding ret
-of-ret = seq of-pop λ pc. of-set
+of-ret = of-popInto _
 
 of-retFar : Most Unit retFar 4
 unfolding retFar
@@ -187,7 +179,7 @@ unfolding dbnzWhile
 of-dbnzWhile wanted disp = seq of-countDown λ b. seq of-flag λ z. of-jumpIf _ disp
 
 pub of-conditional : (i : Conditional) → Most Unit (conditional i) 0
-unfolding conditional branchIf condition dbnz bcwz
+unfolding conditional branchIf condition asked dbnz bcwz
 of-conditional (If n disp) = seq (seq (of-getD conditions conditions-free (n / 2 % 8)) λ b. of-pure) λ b. of-jumpIf b disp
 of-conditional (Dbnzne disp) = of-dbnzWhile false disp
 of-conditional (Dbnze disp) = of-dbnzWhile true disp
@@ -209,7 +201,7 @@ unfolding reti
 of-reti = seq of-pop λ pc. seq of-pop λ ps. seq of-pop λ x. seq of-set λ _. seq of-set λ _. of-flags
 
 pub of-interrupts : (i : Interrupt) → Most Bool (interrupts i) 12
-unfolding interrupts brkv chkind
+unfolding interrupts untrapped brkv chkind
 of-interrupts Brk3 = up (lit≤ tt) (of-brk 3)
 of-interrupts (Brk v) = up (lit≤ tt) (of-brk v)
 of-interrupts Brkv = up (lit≤ tt) (seq of-flag λ b. of-trapIf b 4)
@@ -262,10 +254,14 @@ of-goesOnAfter Stm q = of-pure
 of-goesOnAfter Inm q = of-pure
 of-goesOnAfter Outm q = of-pure
 
+of-afterElement : (k : Primitive) (q : Repeat) (start : ℕ) → Most Unit (afterElement k q start) 0
+unfolding afterElement
+of-afterElement k q start = seq of-countDown λ left. seq (of-goesOnAfter k q) λ on. either-way (on && left) of-set of-pure
+
 of-repeated : (k : Primitive) (w : Bool) (seg : ℕ) (q : Repeat) (start : ℕ) → Most Unit (repeated k w seg q start) 4
 unfolding repeated element
 of-repeated k w seg q start =
-    seq of-registers λ r. either-way (eqb (r CW) 0) (up (lit≤ tt) of-pure) (seq (of-primitive k w seg) λ _. seq of-registers λ x. seq of-set λ _. seq (of-goesOnAfter k q) λ on. either-way (not on || eqb (sub16 (x CW) 1) 0) of-pure of-set)
+    seq of-registers λ r. either-way (eqb (r CW) 0) (up (lit≤ tt) of-pure) (seq (of-primitive k w seg) λ _. of-afterElement k q start)
 
 pub of-block : (k : Primitive) (w : Bool) (seg : ℕ) (q : Repeat) (start : ℕ) → Most Unit (block k w seg q start) 4
 unfolding block

@@ -35,17 +35,18 @@ use Rattle.sheet.specs.declared.Field.{Field}
 use Rattle.sheet.specs.declared.Field.the-variants.{Ins, Ext}
 use Rattle.sheet.specs.Registers.{CL, readReg}
 use Rattle.sheet.specs.Act.{Act, _>>=_}
-use Rattle.sheet.specs.Operand.{regValue}
+use Rattle.sheet.specs.Operand.{deposit, regValue}
 use Rattle.sheet.specs.Transfer.{mov, loadAcc, storeAcc, toSegment, fromSegment, loadPointer, ahFromPsw, pswFromAh, ldea, trans, xch, transfer}
-use Rattle.sheet.specs.Arithmetic.{Result, operate, conclude, two, test, one}
+use Rattle.sheet.specs.Arithmetic.{Result, finish, operate, conclude, two, test, one}
 use Rattle.sheet.specs.Multiply.{setProduct, multiplied, mulu, mul, mulBy, setQuotient, divided, divu, div}
 use Rattle.sheet.specs.Convert.{cvtbd, cvtdb, cvtbw, cvtwl}
 use Rattle.sheet.specs.Convert as converting
-use Rattle.sheet.specs.Shift.{carryIn, finish, shiftBy, shift}
+use Rattle.sheet.specs.Shift.{carryIn, shiftBy, shift}
 use Rattle.sheet.specs.Bits.{bitDone, bits}
-use Rattle.sheet.specs.Decimal.{adj4, adjb, link, string, rol4, ror4}
-use Rattle.sheet.specs.Fields.{lengthOf, advance, insertInto, ins, window, ext}
-use Rattle.sheet.specs.Execute.{calculate, untrapped, multiply, convert, decimal, field}
+use Rattle.sheet.specs.Decimal.{adj4, adjb, link, chained, string, rol4, ror4}
+use Rattle.sheet.specs.Fields.{lengthOf, advance, insertInto, firstPart, secondPart, ins, window, ext}
+use Rattle.sheet.specs.Traps.{untrapped}
+use Rattle.sheet.specs.Execute.{calculate, multiply, convert, decimal, field}
 use Rattle.theorems.proofs.BoundsRules.{Most, seq, up, either-way, of-pure, of-get, of-registers, of-set, of-flag, of-psw, of-flags, of-peek, of-poke, of-peek-byte, of-poke-byte, of-loop}
 use Rattle.theorems.proofs.BoundsOperands.{of-regValue, of-setReg, of-locate, of-fetch, of-deposit, of-valueAt, of-sourceValue, of-pairAt, of-amountOf, of-trap}
 
@@ -54,8 +55,8 @@ use Rattle.theorems.proofs.BoundsOperands.{of-regValue, of-setReg, of-l
 pub of-transfer : (i : Transfer) → Most Unit (transfer i) 4
 unfolding transfer mov loadAcc storeAcc toSegment fromSegment loadPointer ahFromPsw pswFromAh ldea trans xch
 of-transfer (Mov w to from) = seq (of-sourceValue w from) λ v. seq (of-locate to) λ s. of-deposit w s v
-of-transfer (LoadAcc w from) = up (lit≤ tt) (seq of-registers λ r. seq of-peek λ v. of-setReg _ _ _)
-of-transfer (StoreAcc w to) = up (lit≤ tt) (seq (of-regValue _ _) λ v. seq of-registers λ r. of-poke)
+of-transfer (LoadAcc w from) = seq (of-sourceValue w _) λ v. seq (of-locate _) λ s. of-deposit w s v
+of-transfer (StoreAcc w to) = seq (of-sourceValue w _) λ v. seq (of-locate _) λ s. of-deposit w s v
 of-transfer (ToSegment seg from) = up (lit≤ tt) (seq (of-valueAt true from) λ v. of-set)
 of-transfer (FromSegment to seg) = up (lit≤ tt) (seq (of-locate to) λ s. seq of-registers λ r. of-deposit true s _)
 of-transfer (LoadPointer seg reg from) = seq (of-pairAt from) λ p. seq (of-setReg _ _ _) λ _. of-set
@@ -89,11 +90,15 @@ of-conclude Sub w s v = of-deposit w s v
 of-conclude Xor w s v = of-deposit w s v
 of-conclude Cmp w s v = up (lit≤ tt) of-pure
 
+of-finish : (w : Bool) (s : Spot) (r : Result) → Most Unit (finish w s r) 2
+unfolding finish
+of-finish w s r = seq of-flags λ _. of-deposit w s _
+
 pub of-calculate : (i : Arithmetic) → Most Unit (calculate i) 6
 unfolding calculate two one test
 of-calculate (Two op w to from) =
     seq (of-locate to) λ s. seq (of-fetch w s) λ a. seq (of-sourceValue w from) λ b. seq (of-operate op w a b) λ r. seq of-flags λ _. of-conclude op w s (r .value)
-of-calculate (One op w to) = up (lit≤ tt) (seq (of-locate to) λ s. seq (of-fetch w s) λ a. seq of-flags λ _. of-deposit w s _)
+of-calculate (One op w to) = up (lit≤ tt) (seq (of-locate to) λ s. seq (of-fetch w s) λ a. of-finish w s _)
 of-calculate (Test w left right) = up (lit≤ tt) (seq (of-valueAt w left) λ a. seq (of-sourceValue w right) λ b. of-flags)
 
 -- ---- products and quotients
@@ -137,7 +142,7 @@ of-multiply (Div w by) = seq (of-valueAt w by) λ b. seq of-registers λ r. of-d
 -- ---- adjustments and conversions
 
 of-adj4 : (sub : Bool) → Most Unit (adj4 sub) 0
-unfolding adj4
+unfolding adj4 finish deposit
 of-adj4 sub = seq (of-regValue _ _) λ x. seq of-flag λ ac. seq of-flag λ cy. seq of-flags λ _. of-setReg _ _ _
 
 of-adjb : (sub : Bool) → Most Unit (adjb sub) 0
@@ -171,10 +176,6 @@ of-carryIn Shl = of-pure
 of-carryIn Shr = of-pure
 of-carryIn Shra = of-pure
 
-of-finish : (w : Bool) (s : Spot) (r : Result) → Most Unit (finish w s r) 2
-unfolding finish
-of-finish w s r = seq of-flags λ _. of-deposit w s _
-
 of-shiftBy : (k : Shift) (w : Bool) (s : Spot) (x n : ℕ) → Most Unit (shiftBy k w s x n) 2
 unfolding shiftBy
 of-shiftBy k w s x zero = of-deposit w s x
@@ -207,7 +208,7 @@ half-of-cl : (x : ℕ) → (x % 256 + 1) / 2 ≤ 128
 half-of-cl x = omega arith
 
 of-string : (sub stores : Bool) (seg : ℕ) → Most Unit (string sub stores seg) 384
-unfolding string regValue readReg _>>=_
+unfolding string chained regValue readReg _>>=_
 of-string sub stores seg = of-get λ r. seq (up (mul-le-mul-right 3 (half-of-cl (r CL))) (of-loop (link sub stores seg) 3 (of-link sub stores seg) _ 0 _)) λ c. of-flags
 
 pub of-decimal : (i : Decimal) → Most Unit (decimal i) 384
@@ -239,7 +240,7 @@ of-window base offset false = up (lit≤ tt) of-peek
 of-window base offset true = seq of-peek λ low. seq of-peek λ high. of-pure
 
 pub of-field : (i : Field) → Most Unit (field i) 8
-unfolding field ins ext
+unfolding field ins firstPart secondPart ext
 of-field (Ins offset length) =
     seq (of-regValue _ _) λ o. seq (of-lengthOf length) λ n. seq of-registers λ r. seq (of-insertInto _ _ _ _ _) λ _. seq (either-way (ltb 16 (o % 16 + n)) (of-insertInto _ _ _ _ _) (up (lit≤ tt) of-pure)) λ _. of-advance _ _ _
 of-field (Ext seg offset length) =

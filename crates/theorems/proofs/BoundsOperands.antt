@@ -14,7 +14,7 @@ use Rattle.sheet.specs.declared.Spot.the-variants.{InRegister, InMemory}
 use Rattle.sheet.specs.declared.Amount.{Amount}
 use Rattle.sheet.specs.declared.Amount.the-variants.{InCl, Given}
 use Rattle.sheet.specs.Operand.{regValue, setReg, locate, fetch, deposit, valueAt, sourceValue, pairAt, amountOf}
-use Rattle.sheet.specs.Traps.{push, pop, save, trap}
+use Rattle.sheet.specs.Traps.{push, pop, popInto, pushPsw, pushPsPc, jumpFar, save, trap}
 use Rattle.theorems.proofs.BoundsRules.{Most, seq, up, of-pure, of-registers, of-set, of-psw, of-flags, of-peek, of-poke, of-peek-even}
 
 -- ---- operands
@@ -70,11 +70,27 @@ pub of-pop : Most ℕ pop 2
 unfolding pop
 of-pop = seq of-registers λ r. seq of-peek λ v. seq of-set λ _. of-pure
 
+pub of-popInto : (n : ℕ) → Most Unit (popInto n) 2
+unfolding popInto
+of-popInto n = seq of-pop λ v. of-set
+
+pub of-pushPsw : Most Unit pushPsw 2
+unfolding pushPsw
+of-pushPsw = seq of-psw λ x. of-push x
+
+pub of-pushPsPc : Most Unit pushPsPc 4
+unfolding pushPsPc
+of-pushPsPc = seq of-registers λ r. seq (of-push _) λ _. of-push _
+
+pub of-jumpFar : (ps pc : ℕ) → Most Unit (jumpFar ps pc) 0
+unfolding jumpFar
+of-jumpFar ps pc = seq of-set λ _. of-set
+
 -- ---- traps: both words of a vector lie at even addresses
 
 pub of-save : Most Unit save 6
 unfolding save
-of-save = seq of-psw λ x. seq (of-push x) λ _. seq of-flags λ _. seq of-registers λ r. seq (of-push _) λ _. of-push _
+of-save = seq of-pushPsw λ _. seq of-flags λ _. of-pushPsPc
 
 pub even-first : (v : ℕ) → 4 * v % 2 ≡ 0
 even-first v = omega arith
@@ -84,4 +100,4 @@ even-second v = omega arith
 
 pub of-trap : (v : ℕ) → Most Unit (trap v) 8
 unfolding trap
-of-trap v = seq (of-peek-even (even-first v)) λ pc. seq (of-peek-even (even-second v)) λ ps. seq of-save λ _. seq of-set λ _. of-set
+of-trap v = seq (of-peek-even (even-first v)) λ pc. seq (of-peek-even (even-second v)) λ ps. seq of-save λ _. of-jumpFar ps pc

@@ -14,15 +14,15 @@ use Rattle.sheet.specs.declared.Instr.{Instr}
 use Rattle.sheet.specs.declared.Instr.the-variants.{Stacks}
 use Rattle.sheet.specs.Width.{pick, wrapOf, sub16}
 use Rattle.sheet.specs.Psw.{Flag, BRK, Effect, flagOf, entering}
-use Rattle.sheet.specs.Registers.{SP, BP, PS, PC, PSW, File, fileOf}
+use Rattle.sheet.specs.Registers.{SP, BP, PC, PSW, File, fileOf}
 use Rattle.sheet.specs.Memory.{byteAt, busCycles, readMem}
 use Rattle.sheet.specs.World.{World, pswOf}
 use Rattle.sheet.specs.Act.{Act, pure, flags, _>>=_, registers, _≔_, flag, psw, peek, halted, loop}
 use Rattle.sheet.specs.Handler.{kept, run, runBy, tally}
 use Rattle.sheet.specs.Contract.{Seen, ends, exec, report, reportOf}
-use Rattle.sheet.specs.Traps.{push, save, trap}
+use Rattle.sheet.specs.Traps.{push, pushPsw, pushPsPc, jumpFar, save, trap, untrapped}
 use Rattle.sheet.specs.Stack.{frame, frames, prepare, stack}
-use Rattle.sheet.specs.Execute.{untrapped, operation, execute}
+use Rattle.sheet.specs.Execute.{operation, execute}
 use Rattle.sheet.specs.Reading as reading
 use Rattle.sheet.specs.Reading.{Read, known, scan, word}
 use Rattle.sheet.specs.Encoding.{prefixOf, lookUp}
@@ -164,13 +164,20 @@ of-vector : (o : ℕ) (w : World) → o % 2 ≡ 0 → OddIn w → Exactly OddIn 
 unfolding exec run runBy tally
 of-vector o w e h = exactly h (even-cycles o e)
 
+of-pushPsw : (w : World) → OddIn w → Exactly OddIn 2 tt (exec pushPsw w)
+unfolding pushPsw
+of-pushPsw w o = next (psw true) _ w (of-psw w o) (λ a p. of-push _ a p)
+
+of-pushPsPc : (w : World) → OddIn w → Exactly OddIn 4 tt (exec pushPsPc w)
+unfolding pushPsPc
+of-pushPsPc w o = past _ w (next (push _) _ w (of-push _ w o) (λ a p. of-push _ a p))
+
 of-save : (w : World) → OddIn w → Exactly OddIn 6 tt (exec save w)
 unfolding save
-of-save w o =
-    next (psw true) _ w (of-psw w o) (λ a p. next (push _) _ a (of-push _ a p) (λ b q. next (flags entering (pure tt)) _ b (of-flags entering b q) (λ c r. past _ c (next (push _) _ c (of-push _ c r) (λ d s. of-push _ d s)))))
+of-save w o = next pushPsw _ w (of-pushPsw w o) (λ a p. next (flags entering (pure tt)) _ a (of-flags entering a p) (λ b q. of-pushPsPc b q))
 
-of-leaving : (ps pc : ℕ) (w : World) → Exactly (λ v. Unit {0}) 0 tt (exec ((PS ≔ ps) >>= λ _. PC ≔ pc) w)
-unfolding exec run runBy tally _>>=_
+of-leaving : (ps pc : ℕ) (w : World) → Exactly (λ v. Unit {0}) 0 tt (exec (jumpFar ps pc) w)
+unfolding jumpFar exec run runBy tally _>>=_
 of-leaving ps pc w = exactly tt refl
 
 of-trap : (v : ℕ) (w : World) → OddIn w → Exactly (λ x. Unit {0}) 8 tt (exec (trap v) w)

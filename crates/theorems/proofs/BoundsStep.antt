@@ -22,7 +22,7 @@ use Rattle.sheet.specs.FirstByte.{instruction}
 use Rattle.sheet.specs.Execute.{operation, execute}
 use Rattle.sheet.specs.Step.{fits, sound, refusal, codeAt, source, interrupting, singleStep, stepping, counted, decoded, awake, stepBy, step, interruptBy, interrupt}
 use Rattle.sheet.specs.Act.{_>>=_}
-use Rattle.sheet.specs.Traps.{push, save, trap}
+use Rattle.sheet.specs.Traps.{push, pushPsw, pushPsPc, jumpFar, save, trap}
 use Rattle.theorems.specs.Bounds.{Bytes, stepTop, interruptTop, stepRefusals, interruptRefusals, Among, first, later, Comes, ends-in, stops-by}
 use Rattle.theorems.proofs.BoundsRules.{Within, within, short-of, Most, seq, up, of-pure, of-registers, of-set, of-flag, of-halted}
 use Rattle.theorems.proofs.BoundsOperands.{of-trap}
@@ -118,7 +118,7 @@ step-comes w h g = go (fits w) (sound w) (w .state .halted) (scan instruction (s
 
 -- a trap from outside is never refused
 interrupting-ends : (v : ℕ) (w : World) → (x : World) × (m : Bus) × (exec (interrupting v) w ≡ ends tt x m)
-unfolding interrupting trap save push _>>=_ exec run runBy
+unfolding interrupting trap save pushPsw pushPsPc jumpFar push _>>=_ exec run runBy
 interrupting-ends v w = (_, _, refl)
 
 ends-most : (n : ℕ) (x : World) (m : Bus) → Within {A = Unit {0}} n (ends tt x m) → m .cycles ≤ n

@@ -19,7 +19,7 @@ use Rattle.sheet.specs.World.{World}
 use Rattle.sheet.specs.Handler.{Event, done, runBy, nothing, tally}
 use Rattle.sheet.specs.Contract.{Report, report}
 use Rattle.sheet.specs.Log.{rule, numberAt, more, valueTop, withValue, withKey, withGap, recordAt, entryOf, readLog, entryNumber}
-use Rattle.sheet.specs.Traps.{push, save, trap}
+use Rattle.sheet.specs.Traps.{push, pushPsw, pushPsPc, jumpFar, save, trap}
 use Rattle.sheet.specs.Step.{fits, sound, awake, stepBy, step, stepReport, interrupting, interruptBy, interrupt, interruptReport}
 use Rattle.sheet.proofs.SmallTable.{small-table}
 use Rattle.theorems.specs.Bounds.{Bytes}
@@ -110,7 +110,7 @@ module _ (engine : World → Report) (meets : MeetsStep engine) where
 -- ---- an interrupt call
 
 pub takes-it : interruptReport 0 false callable ≡ report 0 entered (record { cycles = 5 })
-unfolding interruptReport interrupt interruptBy fits sound interrupting trap save push _>>=_ runBy tally settled readMem writeMem byteAt busCycles
+unfolding interruptReport interrupt interruptBy fits sound interrupting trap save pushPsw pushPsPc jumpFar push _>>=_ runBy tally wrapOf settled readMem writeMem byteAt busCycles
 takes-it = refl
 
 pub is-masked : interruptReport 0 true masked ≡ report 7 masked nothing

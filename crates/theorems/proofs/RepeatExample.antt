@@ -16,11 +16,12 @@ use Rattle.sheet.specs.Memory.{byteAt, readMem, writeMem, busCycles}
 use Rattle.sheet.specs.Act as act
 use Rattle.sheet.specs.World.{World, world}
 use Rattle.sheet.specs.Handler.{Event, done, runBy, run, happened, tally}
-use Rattle.sheet.specs.Traps.{push, pop, save, trap}
+use Rattle.sheet.specs.Traps.{push, pop, pushPsw, pushPsPc, jumpFar, save, trap, untrapped}
 use Rattle.sheet.specs.Interrupts.{reti, interrupts}
 use Rattle.sheet.specs.Control.{control}
-use Rattle.sheet.specs.Block.{stepIndex, sourceElement, targetElement, setTarget, primitive, goesOnAfter, element, repeated, block}
-use Rattle.sheet.specs.Execute.{untrapped, operation, execute}
+use Rattle.sheet.specs.Branch.{countDown}
+use Rattle.sheet.specs.Block.{steppedOf, stepIndex, sourceElement, targetElement, setTarget, primitive, goesOnAfter, afterElement, element, repeated, block}
+use Rattle.sheet.specs.Execute.{operation, execute}
 use Rattle.sheet.specs.Reading as reading
 use Rattle.sheet.specs.Reading.{known, scan}
 use Rattle.sheet.specs.Encoding.{prefixOf, lookUp}
@@ -75,7 +76,7 @@ back = machine (words 2 64 81 85 64 0xf202) 3 (memory pushed (1 ∷ 0 ∷ 0 ∷ 
 
 -- whoever unfolds this unfolds what these steps need of the definition
 unfoldable pub opened : ℕ
-unfolding settled byteAt readMem writeMem act._>>=_ runBy run push pop save trap reti interrupts control stepIndex sourceElement targetElement setTarget primitive goesOnAfter element repeated block untrapped operation execute reading._>>=_ scan prefixOf lookUp afterPrefix prefixed instruction fits sound interrupting singleStep stepping counted decoded awake stepBy step interruptBy interrupt
+unfolding wrapOf settled byteAt readMem writeMem act._>>=_ runBy run push pop pushPsw pushPsPc jumpFar save trap reti interrupts control countDown steppedOf stepIndex sourceElement targetElement setTarget primitive goesOnAfter afterElement element repeated block untrapped operation execute reading._>>=_ scan prefixOf lookUp afterPrefix prefixed instruction fits sound interrupting singleStep stepping counted decoded awake stepBy step interruptBy interrupt
 opened = 0
 
 pub first : step start ≡ done tt after-one (happened (step start))
@@ -106,7 +107,7 @@ pub mine : (a : ℕ) → Kept move3 start (elements move3 start) a → Mine a
 mine a k = rw three-elements at k
 
 same-bytes : (a : ℕ) → Mine a → byteAt (back .ram) [] a ≡ byteAt (after-one .ram) [] a
-unfolding byteAt walk
+unfolding byteAt walk steppedOf
 same-bytes a (own-byte zero h e) = rw e
 same-bytes a (own-byte (suc zero) h e) = rw e
 same-bytes a (own-byte (suc (suc zero)) h e) = rw e
@@ -128,7 +129,7 @@ own-low : (a c : ℕ) → c < 3 → a ≡ codeAt 0 64 c → a < 67
 own-low a c h e = omega arith
 
 pub apart : NeverOnItself move3 start
-unfolding walk
+unfolding walk steppedOf
 apart zero c a h t (low e) r l o = omega (arith, own-low a c l o)
 apart (suc zero) c a h t (low e) r l o = omega (arith, own-low a c l o)
 apart (suc (suc zero)) c a h t (low e) r l o = omega (arith, own-low a c l o)
@@ -189,7 +190,7 @@ moved-byte = refl
 
 -- so says demand 3
 pub second : (E : Engine) → Goes E → Demand3 E → Second E
-unfolding walk
+unfolding walk steppedOf
 second E g d n v o s =
     let k = d move3 start (taken E g) Mine mine in
     let one = next-own begun (quiet refl) (g .stepping-first) in

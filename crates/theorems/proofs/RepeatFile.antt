@@ -8,10 +8,10 @@ use lib.Dec.{T}
 use lib.ListN.{length, getD, set}
 use Rattle.sheet.specs.declared.Primitive.{Primitive}
 use Rattle.sheet.specs.declared.Primitive.the-variants.{Movbk, Cmpbk, Cmpm, Ldm, Stm, Inm, Outm}
-use Rattle.sheet.specs.Width.{pick, bytesOf, add16, sub16}
 use Rattle.sheet.specs.Psw.{BRK, DIR, keeps, flagOf, column, settled}
 use Rattle.sheet.specs.Registers.{AW, CW, IX, IY, DS1, PS, SS, DS0, PC, PSW, fileOf, segment, readReg, regWord}
 use Rattle.sheet.specs.Arithmetic.{difference}
+use Rattle.sheet.specs.Block.{steppedOf}
 use Rattle.sheet.proofs.PswLaws.{flag-settled}
 use Rattle.theorems.specs.Repeat.{ofMemory, hasSource, hasTarget, placed}
 
@@ -38,7 +38,7 @@ fourteen P q (a ∷ b ∷ c ∷ d ∷ e ∷ f ∷ g ∷ h ∷ i ∷ j ∷ k ∷ 
 
 -- an index register moved by one element; PSW after a comparison; AW or AL loaded
 unfoldable pub stepped : Bool → ℕ → List ℕ → List ℕ
-stepped b n f = set f n (pick (flagOf (getD f PSW 0) DIR) (sub16 (getD f n 0) (bytesOf b)) (add16 (getD f n 0) (bytesOf b)))
+stepped b n f = set f n (steppedOf b (flagOf (getD f PSW 0) DIR) (getD f n 0))
 
 unfoldable pub compared : Bool → (x y : ℕ) → List ℕ → List ℕ
 compared b x y f = set f PSW (settled keeps (column (difference b x y false .column)) (getD f PSW 0))
@@ -55,10 +55,6 @@ made Ldm b x y f = stepped b IX (loaded b x f)
 made Stm b x y f = stepped b IY f
 made Inm b x y f = f
 made Outm b x y f = f
-
--- an index register after one element, by DIR
-abbrev pub onward : Bool → Bool → ℕ → ℕ
-onward down b o = pick down (sub16 o (bytesOf b)) (add16 o (bytesOf b))
 
 -- what every primitive keeps
 pub record Keeps (f g : List ℕ) : Type 0 where
@@ -182,31 +178,31 @@ made-keeps Outm w x y f e = keeps-all e
 
 -- ---- an index register that has a block moves by one element
 
-moved-dir : (w : Bool) (x y : ℕ) (n o : ℕ) → onward (flagOf (settled keeps (column (difference w x y false .column)) n) DIR) w o ≡ onward (flagOf n DIR) w o
-moved-dir w x y n o = ap (λ d. onward d w o) (flag-settled keeps (column (difference w x y false .column)) n DIR)
+moved-dir : (w : Bool) (x y : ℕ) (n o : ℕ) → steppedOf w (flagOf (settled keeps (column (difference w x y false .column)) n) DIR) o ≡ steppedOf w (flagOf n DIR) o
+moved-dir w x y n o = ap (λ d. steppedOf w d o) (flag-settled keeps (column (difference w x y false .column)) n DIR)
 
 pub no-false : _≡_ {A = Bool} false true → ⊥
 no-false e = let z : _≡_ {A = ℕ} 0 1 = cc in omega arith
 
 pub made-ix : (k : Primitive) (w : Bool) (x y : ℕ) → T (hasSource k) → ofMemory k ≡ true → (f : List ℕ) → length f ≡ 14
-    → getD (made k w x y f) IX 0 ≡ onward (flagOf (getD f PSW 0) DIR) w (getD f IX 0)
+    → getD (made k w x y f) IX 0 ≡ steppedOf w (flagOf (getD f PSW 0) DIR) (getD f IX 0)
 unfolding made stepped compared loaded
-made-ix Movbk w x y t m = fourteen (λ f. getD (made Movbk w x y f) IX 0 ≡ onward (flagOf (getD f PSW 0) DIR) w (getD f IX 0)) (λ a b c d e f g h i j k l m n. refl)
-made-ix Cmpbk w x y t m = fourteen (λ f. getD (made Cmpbk w x y f) IX 0 ≡ onward (flagOf (getD f PSW 0) DIR) w (getD f IX 0)) (λ a b c d e f g h i j k l m n. moved-dir w x y n g)
+made-ix Movbk w x y t m = fourteen (λ f. getD (made Movbk w x y f) IX 0 ≡ steppedOf w (flagOf (getD f PSW 0) DIR) (getD f IX 0)) (λ a b c d e f g h i j k l m n. refl)
+made-ix Cmpbk w x y t m = fourteen (λ f. getD (made Cmpbk w x y f) IX 0 ≡ steppedOf w (flagOf (getD f PSW 0) DIR) (getD f IX 0)) (λ a b c d e f g h i j k l m n. moved-dir w x y n g)
 made-ix Cmpm w x y t m = absurd t
-made-ix Ldm w x y t m = fourteen (λ f. getD (made Ldm w x y f) IX 0 ≡ onward (flagOf (getD f PSW 0) DIR) w (getD f IX 0)) (λ a b c d e f g h i j k l m n. refl)
+made-ix Ldm w x y t m = fourteen (λ f. getD (made Ldm w x y f) IX 0 ≡ steppedOf w (flagOf (getD f PSW 0) DIR) (getD f IX 0)) (λ a b c d e f g h i j k l m n. refl)
 made-ix Stm w x y t m = absurd t
 made-ix Inm w x y t m = absurd t
 made-ix Outm w x y t m = absurd (no-false m)
 
 pub made-iy : (k : Primitive) (w : Bool) (x y : ℕ) → T (hasTarget k) → ofMemory k ≡ true → (f : List ℕ) → length f ≡ 14
-    → getD (made k w x y f) IY 0 ≡ onward (flagOf (getD f PSW 0) DIR) w (getD f IY 0)
+    → getD (made k w x y f) IY 0 ≡ steppedOf w (flagOf (getD f PSW 0) DIR) (getD f IY 0)
 unfolding made stepped compared
-made-iy Movbk w x y t m = fourteen (λ f. getD (made Movbk w x y f) IY 0 ≡ onward (flagOf (getD f PSW 0) DIR) w (getD f IY 0)) (λ a b c d e f g h i j k l m n. refl)
-made-iy Cmpbk w x y t m = fourteen (λ f. getD (made Cmpbk w x y f) IY 0 ≡ onward (flagOf (getD f PSW 0) DIR) w (getD f IY 0)) (λ a b c d e f g h i j k l m n. moved-dir w x y n h)
-made-iy Cmpm w x y t m = fourteen (λ f. getD (made Cmpm w x y f) IY 0 ≡ onward (flagOf (getD f PSW 0) DIR) w (getD f IY 0)) (λ a b c d e f g h i j k l m n. moved-dir w (readReg w (fileOf (a ∷ b ∷ c ∷ d ∷ e ∷ f ∷ g ∷ h ∷ i ∷ j ∷ k ∷ l ∷ m ∷ n ∷ [])) AW) y n h)
+made-iy Movbk w x y t m = fourteen (λ f. getD (made Movbk w x y f) IY 0 ≡ steppedOf w (flagOf (getD f PSW 0) DIR) (getD f IY 0)) (λ a b c d e f g h i j k l m n. refl)
+made-iy Cmpbk w x y t m = fourteen (λ f. getD (made Cmpbk w x y f) IY 0 ≡ steppedOf w (flagOf (getD f PSW 0) DIR) (getD f IY 0)) (λ a b c d e f g h i j k l m n. moved-dir w x y n h)
+made-iy Cmpm w x y t m = fourteen (λ f. getD (made Cmpm w x y f) IY 0 ≡ steppedOf w (flagOf (getD f PSW 0) DIR) (getD f IY 0)) (λ a b c d e f g h i j k l m n. moved-dir w (readReg w (fileOf (a ∷ b ∷ c ∷ d ∷ e ∷ f ∷ g ∷ h ∷ i ∷ j ∷ k ∷ l ∷ m ∷ n ∷ [])) AW) y n h)
 made-iy Ldm w x y t m = absurd t
-made-iy Stm w x y t m = fourteen (λ f. getD (made Stm w x y f) IY 0 ≡ onward (flagOf (getD f PSW 0) DIR) w (getD f IY 0)) (λ a b c d e f g h i j k l m n. refl)
+made-iy Stm w x y t m = fourteen (λ f. getD (made Stm w x y f) IY 0 ≡ steppedOf w (flagOf (getD f PSW 0) DIR) (getD f IY 0)) (λ a b c d e f g h i j k l m n. refl)
 made-iy Inm w x y t m = absurd (no-false m)
 made-iy Outm w x y t m = absurd t
 

@@ -19,7 +19,7 @@ use Rattle.sheet.specs.World.{World, world}
 use Rattle.sheet.specs.Handler.{runBy, run, tally}
 use Rattle.sheet.specs.Operand.{regValue}
 use Rattle.sheet.specs.Arithmetic.{resulting, difference}
-use Rattle.sheet.specs.Block.{stepIndex, sourceElement, targetElement, setTarget, primitive}
+use Rattle.sheet.specs.Block.{steppedOf, stepIndex, sourceElement, targetElement, setTarget, primitive}
 use Rattle.sheet.specs.Step.{codeAt}
 use Rattle.theorems.specs.Repeat.{Block, single, singles, firstOr, elements, walk, InElement, low, high, shown}
 use Rattle.theorems.specs.RepeatCode.{code}
@@ -34,17 +34,17 @@ repeating k b = record { kind = k; word = b; seg = inDs0; repeat = WhileNotZ; si
 
 -- three bytes moved up by one with DIR 0: the blocks overlap, and the first byte is copied on and on
 overlap-up : singles (repeating Movbk false) (machine 0 3 0 1 0xf002 (7 ∷ 8 ∷ 9 ∷ 0 ∷ [])) 3 .ram ≡ 7 ∷ 7 ∷ 7 ∷ 7 ∷ []
-unfolding singles single run runBy act._>>=_ primitive stepIndex sourceElement setTarget readMem writeMem byteAt
+unfolding singles single run runBy act._>>=_ primitive steppedOf stepIndex sourceElement setTarget readMem writeMem byteAt
 overlap-up = refl
 
 -- with DIR 1, from the top, they are moved as they are
 overlap-down : singles (repeating Movbk false) (machine 0 3 2 3 0xf402 (7 ∷ 8 ∷ 9 ∷ 0 ∷ [])) 3 .ram ≡ 7 ∷ 7 ∷ 8 ∷ 9 ∷ []
-unfolding singles single run runBy act._>>=_ primitive stepIndex sourceElement setTarget readMem writeMem byteAt
+unfolding singles single run runBy act._>>=_ primitive steppedOf stepIndex sourceElement setTarget readMem writeMem byteAt
 overlap-down = refl
 
 -- two words moved from an odd address to an even one: 3 cycles each
 odd-words : shown code (repeating Movbk true) (machine 0 2 1 6 0xf002 (replicate 12 5)) 2 ≡ record { cycles = 3 } ∷ record { cycles = 3 } ∷ []
-unfolding shown singles single run runBy act._>>=_ primitive stepIndex sourceElement setTarget readMem writeMem byteAt tally busCycles
+unfolding shown singles single run runBy act._>>=_ primitive steppedOf stepIndex sourceElement setTarget readMem writeMem byteAt tally busCycles
 odd-words = refl
 
 -- F2 AE, a search for 9 among 7 8 9 9 with CW = 4, ends at the third element; among 7 8 7 8 not before the fourth; with CW = 0
@@ -53,18 +53,18 @@ abbrev found : ℕ → List ℕ → ℕ
 found n l = elements (repeating Cmpm false) (machine 9 n 0 0 0xf002 l)
 
 searches : (found 4 (7 ∷ 8 ∷ 9 ∷ 9 ∷ []) ≡ 3) × (found 4 (7 ∷ 8 ∷ 7 ∷ 8 ∷ []) ≡ 4) × (found 0 (9 ∷ []) ≡ 0)
-unfolding elements firstOr singles single run runBy act._>>=_ primitive stepIndex targetElement regValue readReg readMem byteAt difference resulting settled wrapOf signOf evenOf ones
+unfolding elements firstOr singles single run runBy act._>>=_ primitive steppedOf stepIndex targetElement regValue readReg readMem byteAt difference resulting settled wrapOf signOf evenOf ones
 searches = (refl, refl, refl)
 
 -- a word at 1000:FFFF has its bytes at 1FFFFh and 10000h; the next one up is at offset 1, the next byte down from 0 at FFFFh; the
 -- second byte of an instruction at 0:FFFF is at 0
 wraps : InElement 0x1000 0xffff 0x1ffff true × InElement 0x1000 0xffff 0x10000 true × (walk false true 0xffff 1 ≡ 1) × (walk true false 0 1 ≡ 0xffff) × (codeAt 0 0xffff 1 ≡ 0)
-unfolding walk
+unfolding walk steppedOf
 wraps = (low refl, high refl, refl, refl, refl)
 
 -- element j of a block: the index plus j elements, or with DIR 1 minus j elements, modulo 65,536
 pub block-at : (down b : Bool) (o j : ℕ) → o < 65536 → walk down b o j ≡ (o + j * pick down (65536 - bytesOf b) (bytesOf b)) % 65536
-unfolding walk
+unfolding walk steppedOf
 block-at down b o zero h = rw (zero-mul (pick down (65536 - bytesOf b) (bytesOf b)), add-zero o) (sym (mod-eq-of-lt h))
 block-at down b o (suc j) h = one down b (walk down b o j) ∙ rw (block-at down b o j h, mod-add-mod, suc-mul, add-assoc)
   where

@@ -16,8 +16,10 @@ use Rattle.sheet.specs.Registers.{CW, PC, PSW, File, fileOf}
 use Rattle.sheet.specs.World.{World, withState, pswOf, withFile}
 use Rattle.sheet.specs.Act.{pure, _>>=_, registers, _≔_, flag}
 use Rattle.sheet.specs.Handler.{Event, reads, writes, takes, gives, asks, copies, changes, runBy, run}
-use Rattle.sheet.specs.Block.{primitive, goesOn, goesOnAfter, element, repeated, block}
-use Rattle.sheet.specs.Execute.{untrapped, operation, execute}
+use Rattle.sheet.specs.Block.{primitive, goesOn, goesOnAfter, afterElement, element, repeated, block}
+use Rattle.sheet.specs.Branch.{countDown}
+use Rattle.sheet.specs.Traps.{untrapped}
+use Rattle.sheet.specs.Execute.{operation, execute}
 use Rattle.sheet.specs.Step.{singleStep, stepping}
 use Rattle.theorems.specs.Repeat.{repeats, meets}
 use Rattle.theorems.specs.RepeatEngines.{accesses}
@@ -93,19 +95,21 @@ counted k q start f =
     let g : List ℕ = set f CW (sub16 (getD f CW 0) 1) in
     pick (not (on k q (getD g PSW 0)) || eqb (sub16 (getD f CW 0) 1) 0) g (set g PC start)
 
-unless : (t : Bool) (start : ℕ) (w : World)
-    → Runs Unit (pick t (pure tt) (PC ≔ start)) w tt (withWords w (pick t (w .state .file) (set (w .state .file) PC start))) []
+unless : (more none : Bool) (start : ℕ) (w : World)
+    → Runs Unit (pick (more && not none) (PC ≔ start) (pure tt)) w tt (withWords w (pick (not more || none) (w .state .file) (set (w .state .file) PC start))) []
 unfolding run runBy
-unless true start w = record { is = refl }
-unless false start w = record { is = refl }
+unless true true start w = record { is = refl }
+unless true false start w = record { is = refl }
+unless false none start w = record { is = refl }
 
 registers-run : (w : World) → Runs File registers w (fileOf (w .state .file)) w []
 unfolding run runBy
 registers-run w = record { is = refl }
 
-cw-run : (x : ℕ) (w : World) → Runs Unit (CW ≔ x) w tt (withWords w (set (w .state .file) CW x)) []
-unfolding run runBy
-cw-run x w = record { is = refl }
+count-run : (w : World)
+    → Runs Bool countDown w (not (eqb (sub16 (getD (w .state .file) CW 0) 1) 0)) (withWords w (set (w .state .file) CW (sub16 (getD (w .state .file) CW 0) 1))) []
+unfolding countDown run runBy _>>=_
+count-run w = record { is = refl }
 
 pc-run : (x : ℕ) (w : World) → Runs Unit (PC ≔ x) w tt (withWords w (set (w .state .file) PC x)) []
 unfolding run runBy
@@ -125,19 +129,14 @@ done-run w = record { is = refl }
 
 -- one element: the primitive, then CW and PC
 pub element-run : (k : Primitive) (b : Bool) (seg : ℕ) (q : Repeat) (start : ℕ) {w v : World} {t : List Event} → Runs Unit (primitive k b seg) w tt v t
-    → Runs Unit (element k b seg q start) w tt (withWords v (counted k q start (v .state .file))) (t ++ ([] ++ ([] ++ (askedAfter k q ++ []))))
-unfolding element counted
+    → Runs Unit (element k b seg q start) w tt (withWords v (counted k q start (v .state .file))) (t ++ ([] ++ (askedAfter k q ++ [])))
+unfolding element afterElement counted
 element-run k b seg q start {v = v} p =
     let x : ℕ = sub16 (getD (v .state .file) CW 0) 1 in
     let u : World = withWords v (set (v .state .file) CW x) in
-    runs-then
-    (λ _.
-    registers >>= λ r. CW ≔ sub16 (r CW) 1 >>= λ _. goesOnAfter k q >>= λ more. pick (not more || eqb (sub16 (r CW) 1) 0) (pure tt) (PC ≔ start))
-    p
-    (runs-then (λ r. CW ≔ sub16 (r CW) 1 >>= λ _. goesOnAfter k q >>= λ more. pick (not more || eqb (sub16 (r CW) 1) 0) (pure tt) (PC ≔ start)) (registers-run v)
-    (runs-then (λ _. goesOnAfter k q >>= λ more. pick (not more || eqb x 0) (pure tt) (PC ≔ start)) (cw-run x v)
-    (runs-then (λ more. pick (not more || eqb x 0) (pure tt) (PC ≔ start)) (goes-on-after k q u)
-    (unless (not (on k q (pswOf (u .state))) || eqb x 0) start u))))
+    runs-then (λ _. afterElement k q start) p
+    (runs-then (λ left. goesOnAfter k q >>= λ more. pick (more && left) (PC ≔ start) (pure tt)) (count-run v)
+    (runs-then (λ more. pick (more && not (eqb x 0)) (PC ≔ start) (pure tt)) (goes-on-after k q u) (unless (on k q (pswOf (u .state))) (eqb x 0) start u)))
 
 -- a repeat prefix: nothing more with CW = 0, one element otherwise
 pub block-repeated : (k : Primitive) (b : Bool) (seg : ℕ) (q : Repeat) (start : ℕ) → repeats q ≡ true → block k b seg q start ≡ repeated k b seg q start

@@ -14,6 +14,7 @@ use Rattle.sheet.specs.Registers.{CW, PC}
 use Rattle.sheet.specs.Memory.{byteAt}
 use Rattle.sheet.specs.World.{World, world, withState, withFile}
 use Rattle.sheet.specs.Handler.{Event, Outcome, refused, done, happened}
+use Rattle.sheet.specs.Block.{steppedOf}
 use Rattle.sheet.specs.Step.{step, interrupt}
 use Rattle.theorems.specs.Repeat.{single, singles, reg, walk, low, target-byte, placed, quiet, begun, next-own, Taken, Demand3}
 use Rattle.theorems.specs.RepeatEngines.{accesses, accepts, engine}
@@ -88,7 +89,7 @@ last-byte = refl
 
 -- the last byte of the target is to be 0 after one step
 early : (v : World) (t : List Event) → idles start ≡ done tt v t → byteAt (v .ram) (v .rom) 86 ≡ 3 → Demand3 (engine idles interrupt) → ⊥
-unfolding walk
+unfolding walk steppedOf
 early v t e h d =
     let k = d move3 start (takes idles v t e) Mine mine in
     let a = k .on-the-way 1 _ v (rw three-elements (lit≤ tt)) (next-own begun (quiet refl) (accepts e)) in

@@ -10,7 +10,7 @@ use Rattle.sheet.specs.declared.Primitive.the-variants.{Movbk, Cmpbk, Cmpm, Ldm
 use Rattle.sheet.specs.declared.Repeat.{Repeat}
 use Rattle.sheet.specs.declared.Repeat.the-variants.{Once, WhileZ, WhileNotZ, WhileCy, WhileNotCy}
 use Rattle.sheet.specs.declared.Instr.the-variants.{Blocks}
-use Rattle.sheet.specs.Width.{pick, bytesOf, add16, sub16}
+use Rattle.sheet.specs.Width.{pick, add16}
 use Rattle.sheet.specs.Psw.{CY, Z, BRK, DIR, flagOf}
 use Rattle.sheet.specs.Registers.{CW, IX, IY, DS1, PS, PC, fileOf, segment}
 use Rattle.sheet.specs.Memory.{physical, next, byteAt}
@@ -18,7 +18,7 @@ use Rattle.sheet.specs.World.{World, pswOf}
 use Rattle.sheet.specs.Handler.{Event, Outcome, refused, done, run, happened}
 use Rattle.sheet.specs.Reading.{known, scan}
 use Rattle.sheet.specs.FirstByte.{instruction}
-use Rattle.sheet.specs.Block.{primitive}
+use Rattle.sheet.specs.Block.{steppedOf, primitive}
 use Rattle.sheet.specs.Step.{codeAt, source}
 
 -- ---- the instruction
@@ -127,7 +127,7 @@ elements i w = firstOr (reg w CW) (λ j. ends (i .kind) (i .repeat) (pswOf (sing
 -- an index register after j elements
 unfoldable pub walk : (down word : Bool) → ℕ → ℕ → ℕ
 walk d b o zero = o
-walk d b o (suc j) = pick d (sub16 (walk d b o j) (bytesOf b)) (add16 (walk d b o j) (bytesOf b))
+walk d b o (suc j) = steppedOf b d (walk d b o j)
 
 -- a is an address of the element at a segment and an offset
 pub data InElement (segment offset a : ℕ) : Bool → Type 0 where

@@ -12,13 +12,12 @@ use Rattle.sheet.specs.Registers.{SP, SS, PS, PC, PSW}
 use Rattle.sheet.specs.Memory.{busCycles}
 use Rattle.sheet.specs.Act.{peek}
 use Rattle.sheet.specs.Handler.{_⊕_, busOf}
-use Rattle.sheet.specs.Traps.{push, pop, save, trap}
+use Rattle.sheet.specs.Traps.{push, pop, pushPsw, pushPsPc, jumpFar, save, trap}
 use Rattle.sheet.specs.Contract.{OnMemory}
 use Rattle.sheet.proofs.Rules.{⊕-assoc}
 use Rattle.sheet.proofs.Lifted.{file-seq, file-pure, file-registers, file-set, file-psw, file-flags, memory-seq, memory-free, memory-last}
 use Rattle.word.proofs.WidthLaws.{wrap-id}
 use Rattle.memory.specs.Accesses.{Loads, Stores}
-use Rattle.traps.specs.PushTwo.{pushTwo}
 use Rattle.traps.specs.Vector.{Fetches}
 
 pub push-is : (f ram rom ram′ : List ℕ) (v sp ss : ℕ) (n : Bus) → sp ≡ sub16 (getD f SP 0) 2 → ss ≡ getD f SS 0 → Stores true ram ss sp v ram′ n
@@ -32,17 +31,21 @@ unfolding pop
 pop-is f ram rom v sp ss next n e q z h =
     memory-free _ file-registers (rw (← e, ← q, ← z) (memory-last _ (h .at f) (file-seq _ (file-set SP next) file-pure)))
 
-pub two-are : (f g h ram ram₁ ram₂ rom : List ℕ) (x y : ℕ) (n m : Bus) → OnMemory Unit (push x) f ram rom tt g ram₁ n 2 → OnMemory Unit (push y) g ram₁ rom tt h ram₂ m 2
-    → OnMemory Unit (pushTwo x y) f ram rom tt h ram₂ (n ⊕ m) 4
-unfolding pushTwo
-two-are f g h ram ram₁ ram₂ rom x y n m p q = memory-seq _ p q
+pub ps-pc-are : (f g h ram ram₁ ram₂ rom : List ℕ) (ps pc : ℕ) (n m : Bus) → ps ≡ getD f PS 0 → pc ≡ getD f PC 0 → OnMemory Unit (push ps) f ram rom tt g ram₁ n 2
+    → OnMemory Unit (push pc) g ram₁ rom tt h ram₂ m 2 → OnMemory Unit pushPsPc f ram rom tt h ram₂ (n ⊕ m) 4
+unfolding pushPsPc
+ps-pc-are f g h ram ram₁ ram₂ rom ps pc n m e q p k = memory-free _ file-registers (rw (← e, ← q) (memory-seq _ {t = 2} {u = 2} p k))
 
-pub save-is : (f g h ram ram₁ ram₂ rom : List ℕ) (old x ps pc : ℕ) (n m : Bus) → old ≡ getD f PSW 0 → old < 65536 → OnMemory Unit (push old) f ram rom tt g ram₁ n 2
-    → x ≡ settled keeps entering (getD g PSW 0) → ps ≡ getD (set g PSW x) PS 0 → pc ≡ getD (set g PSW x) PC 0
-    → OnMemory Unit (pushTwo ps pc) (set g PSW x) ram₁ rom tt h ram₂ m 4 → OnMemory Unit save f ram rom tt h ram₂ (n ⊕ m) 6
-unfolding save pushTwo
-save-is f g h ram ram₁ ram₂ rom old x ps pc n m e l p q i j k =
-    memory-free _ (file-psw true) (rw (← e, wrap-id true old l) (memory-seq _ {t = 2} {u = 4} p (memory-free _ (file-flags entering q) (memory-free _ file-registers (rw (← i, ← j) k)))))
+pushed-psw : (f g ram ram₁ rom : List ℕ) (old : ℕ) (n : Bus) → old ≡ getD f PSW 0 → old < 65536 → OnMemory Unit (push old) f ram rom tt g ram₁ n 2
+    → OnMemory Unit pushPsw f ram rom tt g ram₁ n 2
+unfolding pushPsw
+pushed-psw f g ram ram₁ rom old n e l p = memory-free _ (file-psw true) (rw (← e, wrap-id true old l) p)
+
+pub save-is : (f g h ram ram₁ ram₂ rom : List ℕ) (old x : ℕ) (n m : Bus) → old ≡ getD f PSW 0 → old < 65536 → OnMemory Unit (push old) f ram rom tt g ram₁ n 2
+    → x ≡ settled keeps entering (getD g PSW 0) → OnMemory Unit pushPsPc (set g PSW x) ram₁ rom tt h ram₂ m 4 → OnMemory Unit save f ram rom tt h ram₂ (n ⊕ m) 6
+unfolding save
+save-is f g h ram ram₁ ram₂ rom old x n m e l p q k =
+    memory-seq _ {t = 2} {u = 4} (pushed-psw f g ram ram₁ rom old n e l p) (memory-free _ (file-flags entering q) k)
 
 -- a word at an even offset takes one cycle
 even-word : (o : ℕ) (n : Bus) → n ≡ busOf true o → o % 2 ≡ 0 → n .cycles ≤ 1
@@ -67,7 +70,7 @@ fetches ram rom v at pc ps n m e p q =
 
 pub trap-is : (f g ram ram′ rom : List ℕ) (v pc ps : ℕ) (n m : Bus) → Fetches ram rom v pc ps n → OnMemory Unit save f ram rom tt g ram′ m 6
     → OnMemory Unit (trap v) f ram rom tt (set (set g PS ps) PC pc) ram′ (n ⊕ m) 8
-unfolding trap
+unfolding trap jumpFar
 trap-is f g ram ram′ rom v pc ps n m h k =
     rw (h .sum, ⊕-assoc (h .first) (h .second) m)
     (memory-seq _ {t = 1} {u = 7} (h .offset f) (memory-seq _ {t = 1} {u = 6} (h .base f) (memory-last _ k (file-seq _ (file-set PS ps) (file-set PC pc)))))

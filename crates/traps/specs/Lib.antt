@@ -1,2 +1,1 @@
-pub mod PushTwo
 pub mod Vector

@@ -10,7 +10,6 @@ ghost use mathlib.Core.Path.{_≡_};
 ghost use Prim.Native.Nat.{ℕ};
 ghost use Rattle.sheet.specs.Traps as tree;
 ghost use Rattle.sheet.specs.Contract.{OnMemory};
-ghost use Rattle.traps.specs.PushTwo.{pushTwo};
 ghost use Rattle.traps.specs.Vector.{Fetches};
 
 pub fn push(file: &mut [u16; 14], ram: &mut [u8], rom: &[u8], v: u16) -> Bus
@@ -31,12 +30,13 @@ pub fn pop(file: &mut [u16; 14], ram: &[u8], rom: &[u8]) -> Loaded
     memory::load(true, ram, rom, ss, sp)
 }
 
-// Pushes x, then y.
-pub fn push_two(file: &mut [u16; 14], ram: &mut [u8], rom: &[u8], x: u16, y: u16) -> Bus
-    ensures { λ r. ⌜ OnMemory Unit (pushTwo x y) (now (file .entry)) (now (ram .entry)) (now (rom .entry)) tt (now (file .exit)) (now (ram .exit)) r 4 ⌝ }
+pub fn push_ps_pc(file: &mut [u16; 14], ram: &mut [u8], rom: &[u8]) -> Bus
+    ensures { λ r. ⌜ OnMemory Unit tree.pushPsPc (now (file .entry)) (now (ram .entry)) (now (rom .entry)) tt (now (file .exit)) (now (ram .exit)) r 4 ⌝ }
 {
-    let a = push(file, ram, rom, x);
-    let b = push(file, ram, rom, y);
+    let ps = file[PS];
+    let pc = file[PC];
+    let a = push(file, ram, rom, ps);
+    let b = push(file, ram, rom, pc);
     Bus {
         cycles: a.cycles + b.cycles,
     }
@@ -49,9 +49,7 @@ pub fn save(file: &mut [u16; 14], ram: &mut [u8], rom: &[u8]) -> Bus
     let old = word::word(file[PSW]);
     let a = push(file, ram, rom, old);
     file[PSW] = psw::enter(file[PSW]);
-    let ps = file[PS];
-    let pc = file[PC];
-    let b = push_two(file, ram, rom, ps, pc);
+    let b = push_ps_pc(file, ram, rom);
     Bus {
         cycles: a.cycles + b.cycles,
     }

@@ -47,7 +47,7 @@ pub fn sign(word: bool, x: u16) -> bool
 pub fn even(x: u16) -> bool
     ensures { λ r. ⌜ r ≡ evenOf x ⌝ }
 {
-    u8::count_ones((x % 256) as u8) % 2 == 0
+    u8::count_ones((x % 256) as u8) % 2 != 1
 }
 
 // A byte widened to a word with its sign.

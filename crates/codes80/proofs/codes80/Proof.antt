@@ -1,29 +1,23 @@
 use native.Mathlib.Omega.{arith}
 use Rattle.answers.proofs.CodeLaws.{at-one, at-row}
-use Rattle.sheet.specs.SecondByte.{digit}
 use mathlib.Core.Path.{refl}
 use borrow.Author.Needs.{needs}
 use Rattle.codes80.proofs.codes80.Statement.{statement}
 use Rattle.codes80.proofs.codes80.Tie as tie
 
 returns : tie.Need-returns
-unfolding digit
 returns c = at-row 0x80 refl (search needs) (search needs) (c .with-immediate .ensures)
 
 returns-3 : tie.Need-returns-3
-unfolding digit
 returns-3 c = at-one 0x8c refl refl (c .before .match .keys1) (c .from-segment .ensures)
 
 returns-4 : tie.Need-returns-4
-unfolding digit
 returns-4 c = at-one 0x8d refl refl (c .before .match .keys2) (c .ldea .ensures)
 
 returns-5 : tie.Need-returns-5
-unfolding digit
 returns-5 c = at-one 0x8e refl refl (c .before .match .keys3) (c .to-segment .ensures)
 
 returns-6 : tie.Need-returns-6
-unfolding digit
 returns-6 c = at-row 0x8f refl (omega arith) (omega arith) (c .pop .ensures)
 
 pub codes80-spec : {M : Type 1} → statement M

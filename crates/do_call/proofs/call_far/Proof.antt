@@ -9,10 +9,4 @@ returns c = search (call-far-is, needs)
 pub call-far-spec : {M : Type 1} → statement M
 call-far-spec =
     tie.close
-    (tie.spec
-    (λ c. search needs)
-    (λ c. search needs)
-    (λ c κs. search needs)
-    (λ c κs. search needs)
-    (λ c. search needs)
-    returns)
+    (tie.spec (λ c κs. search needs) (λ c κs. search needs) (λ c. search needs) returns)

@@ -1,12 +1,8 @@
 use Rattle.sheet.specs.Stack.{pushPlace}
 use Rattle.sheet.proofs.Lifted.{memory-known}
-use Rattle.do_stack.proofs.Laws.{at-memory}
 use borrow.Author.Needs.{needs}
 use Rattle.do_stack.proofs.push_place.Statement.{statement}
 use Rattle.do_stack.proofs.push_place.Tie as tie
-
-returns-2 : tie.Need-returns-2
-returns-2 c = search (at-memory, needs)
 
 pub push-place-spec : {M : Type 1} → statement M
 unfolding pushPlace
@@ -20,4 +16,4 @@ push-place-spec =
     (λ c. search needs)
     (λ c. search (memory-known pushPlace, needs))
     (λ c. search needs)
-    returns-2)
+    (λ c. search (memory-known pushPlace, needs)))

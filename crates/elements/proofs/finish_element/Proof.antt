@@ -4,10 +4,10 @@ use Rattle.elements.proofs.finish_element.Statement.{statement}
 use Rattle.elements.proofs.finish_element.Tie as tie
 
 returns : tie.Need-returns
-returns c = search (stays, needs)
+returns c = search (goes-back, needs)
 
 returns-2 : tie.Need-returns-2
-returns-2 c = search (goes-back, needs)
+returns-2 c = search (stays, needs)
 
 pub finish-element-spec : {M : Type 1} → statement M
 finish-element-spec =
@@ -17,6 +17,6 @@ finish-element-spec =
     (λ c κs. search needs)
     (λ c. search needs)
     (λ c κs. search needs)
-    returns
     (λ c. search needs)
+    returns
     returns-2)

@@ -1,7 +1,7 @@
-use Rattle.traps.proofs.Laws.{two-are}
+use Rattle.do_eight.proofs.Laws.{two-are}
 use borrow.Author.Needs.{needs}
-use Rattle.traps.proofs.push_two.Statement.{statement}
-use Rattle.traps.proofs.push_two.Tie as tie
+use Rattle.do_eight.proofs.push_two.Statement.{statement}
+use Rattle.do_eight.proofs.push_two.Tie as tie
 
 returns : tie.Need-returns
 returns c = search (two-are, needs)

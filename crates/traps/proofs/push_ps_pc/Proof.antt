@@ -1,0 +1,19 @@
+use Rattle.traps.proofs.Laws.{ps-pc-are}
+use borrow.Author.Needs.{needs}
+use Rattle.traps.proofs.push_ps_pc.Statement.{statement}
+use Rattle.traps.proofs.push_ps_pc.Tie as tie
+
+returns : tie.Need-returns
+returns c = search (ps-pc-are, needs)
+
+pub push-ps-pc-spec : {M : Type 1} → statement M
+push-ps-pc-spec =
+    tie.close
+    (tie.spec
+    (λ c. search needs)
+    (λ c. search needs)
+    (λ c κs. search needs)
+    (λ c κs. search needs)
+    (λ c. search needs)
+    (λ c. search needs)
+    returns)
