@@ -3,8 +3,6 @@ use registers::PSW;
 use sheet::Bus;
 use sheet::State;
 ghost use mathlib.Core.Path.{_≡_};
-ghost use mathlib.Core.Bool.{Bool};
-ghost use Prim.Native.Nat.{ℕ};
 ghost use Rattle.sheet.specs.World.{world};
 ghost use Rattle.sheet.specs.Step as definition;
 ghost use Rattle.calls.specs.Calls.{checkNumber, Accepts, Interrupts};

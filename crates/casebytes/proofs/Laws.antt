@@ -1,6 +1,6 @@
 -- What the turns of the loops come to. Assumes nothing.
 use Prim.Native.Nat.{ℕ, _+_, _*_, _^_, _<_, _≤_}
-use mathlib.Core.Bool.{Bool, true, false}
+use mathlib.Core.Bool.{Bool, true, false, cond}
 use mathlib.Core.List.{List, [], _∷_, _++_}
 use mathlib.Core.Path.{_≡_, refl, sym, ap, _∙_}
 use native.Mathlib.Nat.{le-antisymm}
@@ -12,7 +12,7 @@ use lib.Dec.{eqb}
 use lib.Bits.{bitXor, xor-lt}
 use borrow.Author.Tests.{eq-eqb, ne-eqb}
 use Rattle.casebytes.specs.Numbers.{doubleAt}
-use Rattle.casebytes.specs.Buffers.{mixed, sumOf, patchedIf, patchedAt, patched}
+use Rattle.casebytes.specs.Buffers.{mixed, sumOf, patchedAt, patched}
 
 -- one byte more is filled
 pub filled : (l : List ℕ) (i v : ℕ) → i < length l → take i l ≡ replicate i v → take (i + 1) (set l i v) ≡ replicate (i + 1) v
@@ -35,7 +35,7 @@ pub patched-length : (kind : ℕ) (patches : List ℕ) (at : ℕ) (l : List ℕ)
 unfolding patchedAt
 patched-length kind patches at l = go (eqb (getD patches at 0) kind)
   where
-    go : (b : Bool) → length (patchedIf b (set l (doubleAt patches (at + 1)) (getD patches (at + 5) 0)) l) ≡ length l
+    go : (b : Bool) → length (cond b (set l (doubleAt patches (at + 1)) (getD patches (at + 5) 0)) l) ≡ length l
     go true = length-set l _ _
     go false = refl
 

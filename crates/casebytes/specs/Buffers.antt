@@ -1,6 +1,6 @@
 -- What a case's buffers hold: sums and patches.
 use Prim.Native.Nat.{ℕ, zero, suc, _+_, _*_, _%_}
-use mathlib.Core.Bool.{Bool, true, false}
+use mathlib.Core.Bool.{cond}
 use mathlib.Core.List.{List, [], _∷_}
 use lib.ListN.{getD, set}
 use lib.Dec.{eqb}
@@ -15,13 +15,9 @@ unfoldable pub sumOf : ℕ → List ℕ → ℕ
 sumOf sum [] = sum
 sumOf sum (byte ∷ bytes) = sumOf (mixed sum byte) bytes
 
-abbrev pub patchedIf : Bool → List ℕ → List ℕ → List ℕ
-patchedIf true new old = new
-patchedIf false new old = old
-
 -- a buffer after the patch at a place: kind, index, value; a patch of another kind, or one past the end, changes nothing
 unfoldable pub patchedAt : ℕ → List ℕ → ℕ → List ℕ → List ℕ
-patchedAt kind patches at l = patchedIf (eqb (getD patches at 0) kind) (set l (doubleAt patches (at + 1)) (getD patches (at + 5) 0)) l
+patchedAt kind patches at l = cond (eqb (getD patches at 0) kind) (set l (doubleAt patches (at + 1)) (getD patches (at + 5) 0)) l
 
 -- a buffer after so many patches
 unfoldable pub patched : ℕ → List ℕ → ℕ → List ℕ → List ℕ

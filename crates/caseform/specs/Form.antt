@@ -1,23 +1,20 @@
 -- Where a case's header and its results have their fields.
 use Prim.Native.Nat.{ℕ, zero, suc, _+_, _*_, _%_}
-use mathlib.Core.Bool.{Bool, true, false, not}
+use mathlib.Core.Bool.{Bool, not}
 use mathlib.Core.List.{List}
 use lib.ListN.{getD, set, replicate}
 use lib.Dec.{eqb, ltb}
 use mir.Val.{boolByte}
+use Rattle.sheet.specs.Width.{pick}
 use Rattle.sheet.specs.declared.State.{State}
 use Rattle.sheet.specs.declared.Entry.{Entry}
 use Rattle.sheet.specs.declared.Entry.the-variants.{Record, End, Malformed, Beyond}
 use Rattle.casebytes.specs.Numbers.{wordAt, doubleAt, wordPut, doublePut}
 use Rattle.caseform.specs.declared.Case.{Case}
 
-abbrev pub placeIf : Bool → ℕ → ℕ → ℕ
-placeIf true a b = a
-placeIf false a b = b
-
 -- where the register file has the stream's register i: eight general ones, PS, SS, DS0, DS1, PC, PSW
 unfoldable pub placeOf : ℕ → ℕ
-placeOf i = placeIf (ltb i 8) i (placeIf (ltb i 11) (i + 1) (placeIf (ltb i 12) 8 i))
+placeOf i = pick (ltb i 8) i (pick (ltb i 11) (i + 1) (pick (ltb i 12) 8 i))
 
 -- the register file after the header's first registers
 unfoldable pub fileOf : List ℕ → ℕ → List ℕ

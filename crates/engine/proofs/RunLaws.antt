@@ -1,8 +1,8 @@
 -- What a run's loop has come to, and what each return of a run's code comes to.
 use Prim.Native.Nat.{ℕ, suc, _+_, _-_, _*_, _≤_, _<_, zero-le}
-use mathlib.Core.Bool.{Bool, true, false, not}
+use mathlib.Core.Bool.{Bool, true, false, true≢false}
 use mathlib.Core.List.{List, [], _∷_, _++_}
-use mathlib.Core.Path.{_≡_, refl, sym, ap, _∙_}
+use mathlib.Core.Path.{_≡_, refl, ap, _∙_}
 use native.Mathlib.Omega.{arith}
 use lib.ListN.{length}
 use borrow.Author.Tests.{le-leb}
@@ -12,14 +12,14 @@ use Rattle.sheet.specs.declared.Progress.{Progress}
 use Rattle.sheet.specs.World.{World, world, stateOf}
 use Rattle.sheet.specs.Handler.{Event, Outcome, refused, done, kept, nothing, _⊕_, tally}
 use Rattle.sheet.specs.Contract.{stops, ends, seen}
-use Rattle.sheet.specs.Step.{fits, sound, awake, stepBy}
+use Rattle.sheet.specs.Step.{fits, sound, refusal, awake, stepBy}
 use Rattle.sheet.specs.Run.{Ran, ran, more, onward, stepsBy, runsBy, runs, RunReport, runReported, ranReport}
 use Rattle.sheet.proofs.Lent.{Lent, Sound}
 use Rattle.sheet.proofs.StepLaws.{step-leaves}
 use Rattle.calls.specs.Calls.{checkNumber}
+use Rattle.calls.proofs.Laws.{passed, checked-passed, checked-refused}
 use Rattle.engine.specs.Steps.{placesOf, Advances}
 use Rattle.engine.specs.Runs.{Runs}
-use Rattle.engine.proofs.Laws.{passed}
 
 -- what two lists of events come to
 pub tally-both : (t u : List Event) → tally (t ++ u) ≡ tally t ⊕ tally u
@@ -47,35 +47,26 @@ report-more t (ran n w m u) k c =
     let b : c + (tally t .cycles + tally u .cycles) ≡ c + tally t .cycles + tally u .cycles = omega arith in
     rw (tally-both t u, a, b)
 
--- ---- one step, by what is seen of it
+-- ---- what an outcome is, by what is seen of it
 
-record Done (v v′ : World) (n : Bus) : Type 0 where
-  trace : List Event
-  is : stepBy kept v ≡ done tt v′ trace
-  sum : tally trace ≡ n
+-- it is done: it leaves v, and its events come to b
+pub record Done (o : Outcome Unit) (v : World) (b : Bus) : Type 0 where
+  pub events : List Event
+  pub is : o ≡ done tt v events
+  pub sum : tally events ≡ b
 
-record Refused (v : World) (k : ℕ) : Type 0 where
-  trace : List Event
-  is : stepBy kept v ≡ refused k trace
+pub as-done : (o : Outcome Unit) (v : World) (b : Bus) → seen o ≡ ends tt v b → Done o v b
+as-done (refused k t) v b e = absurd (true≢false cc)
+as-done (done tt u t) v b e = let x : u ≡ v = cc in let y : tally t ≡ b = cc in record { events = t; is = rw x; sum = y }
 
-module _ (v : World) (f : fits v ≡ true) (g : sound v ≡ true) where
-  past-checks : stepBy kept v ≡ awake kept v
-  unfolding stepBy
-  past-checks = rw (f, g)
+pub as-refused : (o : Outcome Unit) (k : ℕ) → seen o ≡ stops k → (t : List Event) × (o ≡ refused k t)
+as-refused (refused j t) k e = let x : j ≡ k = cc in (t, rw x)
+as-refused (done tt u t) k e = absurd (true≢false cc)
 
-  step-done : (v′ : World) (n : Bus) → seen (awake kept v) ≡ ends tt v′ n → Done v v′ n
-  step-done v′ n e = go (awake kept v) refl e
-    where
-      go : (o : Outcome Unit) → awake kept v ≡ o → seen o ≡ ends tt v′ n → Done v v′ n
-      go (refused k t) a q = absurd (let z : _≡_ {A = ℕ} 0 1 = cc in omega arith)
-      go (done x u t) a q = let b : _≡_ {A = World} u v′ = cc in let c : _≡_ {A = Bus} (tally t) n = cc in record { trace = t; is = past-checks ∙ a ∙ rw b; sum = c }
-
-  step-refused : (k : ℕ) → seen (awake kept v) ≡ stops k → Refused v k
-  step-refused k e = go (awake kept v) refl e
-    where
-      go : (o : Outcome Unit) → awake kept v ≡ o → seen o ≡ stops k → Refused v k
-      go (refused j t) a q = let b : _≡_ {A = ℕ} j k = cc in record { trace = t; is = past-checks ∙ a ∙ rw b }
-      go (done x u t) a q = absurd (let z : _≡_ {A = ℕ} 0 1 = cc in omega arith)
+-- a step that passes the checks
+pub step-on : (v : World) → (fits v ≡ true) × (sound v ≡ true) → stepBy kept v ≡ awake kept v
+unfolding stepBy
+step-on v = checked-passed v refusal (awake kept v)
 
 -- an accepted call leaves a world that passes the checks again
 pub sound-so : (w : World) → Sound w → sound w ≡ true
@@ -90,11 +81,10 @@ fits-so w v l f = rw (l .ram-long, l .rom-same) f
 
 -- k steps are done, from w to v, in c bus cycles: the rest of the run is the rest from v, which passes the checks
 pub record Continues (w v : World) (k c : ℕ) : Type 0 where
-  pub accepted : checkNumber w ≡ 0
+  pub accepted : (fits w ≡ true) × (sound w ≡ true)
   pub most : c ≤ 1028 * k
   pub whole : length (v .state .file) ≡ 14
-  pub fit : fits v ≡ true
-  pub good : sound v ≡ true
+  pub good : (fits v ≡ true) × (sound v ≡ true)
   pub rest : (j : ℕ) → ranReport (stepsBy (λ i. kept) (k + j) w) ≡ before k c (ranReport (stepsBy (λ i. kept) j v))
 
 before-none : (r : RunReport) → r ≡ before 0 0 r
@@ -105,13 +95,11 @@ before-none (runReported n w m b) =
 
 continues-start : (w : World) → length (w .state .file) ≡ 14 → checkNumber w ≡ 0 → Continues w w 0 0
 continues-start w h e =
-    let c = passed w e in
     record {
-      accepted = e;
+      accepted = passed w e;
       most = zero-le;
       whole = h;
-      fit = c .0;
-      good = c .1;
+      good = passed w e;
       rest = λ j. (let z : 0 + j ≡ j = omega arith in rw z (before-none (ranReport (stepsBy (λ i. kept) j w))));
     }
 
@@ -132,35 +120,34 @@ module _ {w : World} {s : State} {ram rom tape log : List ℕ} {k c : ℕ} (p : 
       → Continues w (world s′ ram′ rom tape log′) (k + 1) (c + n .cycles)
   unfolding v
   continues-more {s′ = s′} {ram′ = ram′} {log′ = log′} {n = n} h a =
-      let d = step-done v (p .fit) (p .good) v′ n (rw h at (a .is)) in
-      let g = step-leaves kept v v′ (d .trace) (p .whole) (d .is) in
+      let d = as-done (stepBy kept v) v′ n (rw h at (ap seen (step-on v (p .good)) ∙ a .is)) in
+      let g = step-leaves kept v v′ (d .events) (p .whole) (d .is) in
       record {
         accepted = p .accepted;
         most = (let x = p .most in let y = a .most in omega arith);
         whole = g .sound .whole;
-        fit = fits-so v v′ (g .lent) (p .fit);
-        good = sound-so v′ (g .sound);
+        good = (fits-so v v′ (g .lent) (p .good .0), sound-so v′ (g .sound));
         rest = λ j. rest-of d j;
       }
     where
       v′ : World
       v′ = world s′ ram′ rom tape log′
 
-      one-more : Done v v′ n → (j : ℕ) → before k c (ranReport (stepsBy (λ i. kept) (suc j) v)) ≡ before (k + 1) (c + n .cycles) (ranReport (stepsBy (λ i. kept) j v′))
-      one-more d j = rw (one-step j v, d .is) (report-more (d .trace) (stepsBy (λ i. kept) j v′) k c ∙ rw (d .sum))
+      one-more : Done (stepBy kept v) v′ n → (j : ℕ) → before k c (ranReport (stepsBy (λ i. kept) (suc j) v)) ≡ before (k + 1) (c + n .cycles) (ranReport (stepsBy (λ i. kept) j v′))
+      one-more d j = rw (one-step j v, d .is) (report-more (d .events) (stepsBy (λ i. kept) j v′) k c ∙ rw (d .sum))
 
-      rest-of : Done v v′ n → (j : ℕ) → ranReport (stepsBy (λ i. kept) (k + 1 + j) w) ≡ before (k + 1) (c + n .cycles) (ranReport (stepsBy (λ i. kept) j v′))
+      rest-of : Done (stepBy kept v) v′ n → (j : ℕ) → ranReport (stepsBy (λ i. kept) (k + 1 + j) w) ≡ before (k + 1) (c + n .cycles) (ranReport (stepsBy (λ i. kept) j v′))
       rest-of d j = let z : k + 1 + j ≡ k + suc j = omega arith in rw z (p .rest (suc j) ∙ one-more d j)
 
   continues-stop : (budget number : ℕ) → k < budget → seen (awake kept v) ≡ stops number
       → ranReport (stepsBy (λ i. kept) budget w) ≡ runReported number v k (record { cycles = c })
   unfolding v tally
   continues-stop budget number h a =
-      let d = step-refused v (p .fit) (p .good) number a in
+      let d = as-refused (stepBy kept v) number (ap seen (step-on v (p .good)) ∙ a) in
       let z : budget ≡ k + suc (budget - k - 1) = omega arith in
       let x : k + 0 ≡ k = omega arith in
       let y : c + 0 ≡ c = omega arith in
-      rw z (p .rest (suc (budget - k - 1)) ∙ rw (one-step (budget - k - 1) v, d .is, x, y))
+      rw z (p .rest (suc (budget - k - 1)) ∙ rw (one-step (budget - k - 1) v, d .1, x, y))
 
   continues-end : (budget : ℕ) → k ≡ budget → ranReport (stepsBy (λ i. kept) budget w) ≡ runReported 0 v k (record { cycles = c })
   unfolding v tally
@@ -170,20 +157,11 @@ module _ {w : World} {s : State} {ram rom tape log : List ℕ} {k c : ℕ} (p : 
       let y : c + 0 ≡ c = omega arith in
       rw z (p .rest 0 ∙ rw (no-step v, x, y))
 
--- what the loop's test says
-pub not-done : {b : Bool} → not b ≡ true → b ≡ false
-not-done {b = true} e = sym e
-not-done {b = false} e = refl
-
-pub was-done : {b : Bool} → not b ≡ false → b ≡ true
-was-done {b = true} e = refl
-was-done {b = false} e = sym e
-
 -- ---- the run
 
-runs-on : (budget : ℕ) (w : World) → checkNumber w ≡ 0 → runs budget w ≡ stepsBy (λ i. kept) budget w
+pub runs-on : (budget : ℕ) (w : World) → (fits w ≡ true) × (sound w ≡ true) → runs budget w ≡ stepsBy (λ i. kept) budget w
 unfolding runs runsBy
-runs-on budget w e = let q = passed w e in rw (q .0, q .1)
+runs-on budget w = checked-passed w (λ n. ran n w 0 []) (stepsBy (λ i. kept) budget w)
 
 module _ {budget : ℕ} {s : State} {ram rom tape log f ram₁ log₁ : List ℕ} {halted : Bool} {q : Progress} {k c : ℕ}
     (p : Continues (world s ram rom tape log) (world (stateOf f halted q) ram₁ rom tape log₁) k c) where
@@ -205,16 +183,9 @@ module _ {budget : ℕ} {s : State} {ram rom tape log f ram₁ log₁ : List ℕ
   unfolding v
   runs-end h l u = record { within = h; most = p .most; is = rw u (ap ranReport (runs-on budget _ (p .accepted)) ∙ continues-end p budget (omega arith)) }
 
-refused-at-once : (budget : ℕ) (w : World) (number : ℕ) → number ≡ checkNumber w → (number ≡ 0 → ⊥) → ranReport (runs budget w) ≡ runReported number w 0 nothing
-unfolding runs runsBy tally
-refused-at-once budget w number e z = go (fits w) (sound w) refl refl
-  where
-    go : (f g : Bool) → fits w ≡ f → sound w ≡ g → ranReport (runs budget w) ≡ runReported number w 0 nothing
-    go true true a b = absurd (z (e ∙ rw (a, b)))
-    go true false a b = rw (e, a, b)
-    go false g a b = rw (e, a)
-
 pub runs-refused : (budget : ℕ) (s : State) (ram rom tape log : List ℕ) (number : ℕ) → number ≡ checkNumber (world s ram rom tape log) → (number ≡ 0 → ⊥)
     → Runs budget s ram rom tape log number s ram log 0 nothing
+unfolding runs runsBy tally
 runs-refused budget s ram rom tape log number e z =
-    record { within = zero-le; most = zero-le; is = refused-at-once budget (world s ram rom tape log) number e z }
+    let w : World = world s ram rom tape log in
+    record { within = zero-le; most = zero-le; is = ap ranReport (checked-refused w (λ n. ran n w 0 []) (stepsBy (λ i. kept) budget w) number e z) }

@@ -8,6 +8,12 @@ pub fn say(text: &[u8]) {
     write_all(STDERR_FILENO, text);
 }
 
+// Says what failed, and why.
+fn fail(what: &[u8]) {
+    say(b"v30: ");
+    os::fail(what);
+}
+
 // A count that is within a buffer.
 
 pub fn within(n: usize, buffer: &[u8]) -> usize
@@ -39,8 +45,7 @@ fn is_whole(fd: i32, path: &[u8]) -> bool {
     let mut more = [0u8; 1];
     let got = libc::read(fd, &mut more);
     if got < 0 {
-        say(b"v30: ");
-        os::fail(path);
+        fail(path);
         return false;
     }
     if got > 0 {
@@ -58,8 +63,7 @@ fn load_file(path: &[u8], out: &mut [u8]) -> Loaded
 {
     let fd = os::open_read(path);
     if fd < 0 {
-        say(b"v30: ");
-        os::fail(path);
+        fail(path);
         return Loaded { ok: false, len: 0 };
     }
     let len = io::read_full(fd, out);
@@ -75,8 +79,7 @@ pub fn load(index: usize, out: &mut [u8]) -> Loaded
     let mut path = io::buffer();
     let k = os::arg(index, &mut path);
     if os::errno() != 0 {
-        say(b"v30: ");
-        os::fail(b"a file's name");
+        fail(b"a file's name");
         return Loaded { ok: false, len: 0 };
     }
     if k == 0 {
@@ -111,8 +114,7 @@ pub fn open(index: usize) -> Output {
     let mut path = io::buffer();
     let k = os::arg(index, &mut path);
     if os::errno() != 0 {
-        say(b"v30: ");
-        os::fail(b"the log's name");
+        fail(b"the log's name");
         return Output {
             ok: false,
             wanted: true,
@@ -128,8 +130,7 @@ pub fn open(index: usize) -> Output {
     }
     let fd = os::create(&path[..k]);
     if fd < 0 {
-        say(b"v30: ");
-        os::fail(&path[..k]);
+        fail(&path[..k]);
         return Output {
             ok: false,
             wanted: true,

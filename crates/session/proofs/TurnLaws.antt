@@ -1,5 +1,5 @@
 -- What each return of a session's code comes to.
-use Prim.Native.Nat.{ℕ, _+_, _-_, _%_, _≤_}
+use Prim.Native.Nat.{ℕ, _+_, _-_, _%_, min}
 use mathlib.Core.Bool.{Bool, true, false}
 use mathlib.Core.List.{List}
 use mathlib.Core.Logic.{inl, inr}
@@ -13,14 +13,11 @@ use Rattle.calls.specs.Calls.{Interrupts}
 use Rattle.engine.specs.Runs.{Runs}
 use Rattle.session.specs.declared.Session.{Session}
 use Rattle.session.specs.declared.Next.{Next}
-use Rattle.session.specs.Turns.{nextOf, vectorOf, maskableOf, isCalled, lesser, budgetOf, answeredBy, ranBy, Called, called, Continued, continued, Turn, byCall, byRun, Turns, none, more, Played, Plays}
+use Rattle.session.specs.Turns.{nextOf, vectorOf, maskableOf, isCalled, budgetOf, answeredBy, ranBy, Called, called, Continued, continued, Turn, byCall, byRun, Turns, none, more, Played, Plays}
 
-pub budget-is : (steps limit due : ℕ) {a b left r : ℕ} → a ≡ limit - steps → b ≡ due - steps → (left ≡ lesser a b) × (left ≤ b) → (r ≡ lesser left 65535) × (r ≤ 65535) → r % 65536 ≡ budgetOf steps limit due
+pub budget-is : (steps limit due : ℕ) {a b left r : ℕ} → a ≡ limit - steps → b ≡ due - steps → left ≡ min a b → r ≡ min left 65535 → r % 65536 ≡ budgetOf steps limit due
 unfolding budgetOf
-budget-is steps limit due {a} {b} {left} {r} ea eb el er =
-    let small : r % 65536 ≡ r = omega (arith, er .1) in
-    let whole : left ≡ lesser (limit - steps) (due - steps) = el .0 ∙ ap (λ (x : ℕ). lesser x b) ea ∙ ap (λ (x : ℕ). lesser (limit - steps) x) eb in
-    small ∙ er .0 ∙ ap (λ (x : ℕ). lesser x 65535) whole
+budget-is steps limit due ea eb el er = omega arith
 
 pub called-is : {call number : ℕ} {s r : Session} {ram rom tape log ram′ : List ℕ} {t : State} {n : Bus} → Interrupts (vectorOf call) (maskableOf call) (s .state) ram rom tape log number t ram′ n → r ≡ answeredBy s number t n → Called call s ram rom tape log r ram′
 called-is {call} {number} {s} {r} {ram} {rom} {tape} {log} {ram′} {t} {n} h e =
@@ -34,17 +31,17 @@ continued-is {budget} {number} {limit} {k} {next} {s} {r} {ram} {rom} {tape} {lo
     (continued
     (subst (λ (x : ℕ). ranReport (runs x (world (s .state) ram rom tape log)) ≡ runReported number (world t ram′ rom tape log′) k n) b (h .is)))
 
+-- whether the next call is made, as the code found it
+decided : (limit : ℕ) (s : Session) {next upcoming : Next} {due b : Bool} → next ≡ upcoming → due ≡ isCalled s next limit → due ≡ b → isCalled s upcoming limit ≡ b
+decided limit s e f y = ap (λ (x : Next). isCalled s x limit) (sym e) ∙ sym f ∙ y
+
 pub turn-by-call : {limit : ℕ} {next : Next} {due : Bool} {calls : List ℕ} {s r : Session} {ram rom tape log ram′ : List ℕ} → next ≡ nextOf calls (s .made) → due ≡ isCalled s next limit → due ≡ true → Called (next .call) s ram rom tape log r ram′ → Turn calls limit s ram rom tape log r ram′ log
 turn-by-call {limit} {next} {due} {calls} {s} {r} {ram} {rom} {tape} {log} {ram′} e f y h =
-    byCall
-    (ap (λ (x : Next). isCalled s x limit) (sym e) ∙ sym f ∙ y)
-    (subst (λ (x : Next). Called (x .call) s ram rom tape log r ram′) e h)
+    byCall (decided limit s e f y) (subst (λ (x : Next). Called (x .call) s ram rom tape log r ram′) e h)
 
 pub turn-by-run : {limit : ℕ} {next : Next} {due : Bool} {calls : List ℕ} {s r : Session} {ram rom tape log ram′ log′ : List ℕ} → next ≡ nextOf calls (s .made) → due ≡ isCalled s next limit → due ≡ false → Continued next limit s ram rom tape log r ram′ log′ → Turn calls limit s ram rom tape log r ram′ log′
 turn-by-run {limit} {next} {due} {calls} {s} {r} {ram} {rom} {tape} {log} {ram′} {log′} e f y h =
-    byRun
-    (ap (λ (x : Next). isCalled s x limit) (sym e) ∙ sym f ∙ y)
-    (subst (λ (x : Next). Continued x limit s ram rom tape log r ram′ log′) e h)
+    byRun (decided limit s e f y) (subst (λ (x : Next). Continued x limit s ram rom tape log r ram′ log′) e h)
 
 pub plays-over : {turns k limit : ℕ} {calls : List ℕ} {s r : Session} {ram rom tape log ram′ log′ : List ℕ} → Turns calls limit s ram rom tape log k r ram′ log′ → r .over ≡ true → Plays turns calls limit s ram rom tape log r ram′ log′
 plays-over {turns} {k} h e = record { done = k; is = h; ends = inl e }

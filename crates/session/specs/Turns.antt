@@ -1,5 +1,5 @@
 -- A session: runs of the definition and scheduled interrupt calls, one after the other, up to a limit of steps.
-use Prim.Native.Nat.{ℕ, _+_, _-_, _/_, _%_, _^_}
+use Prim.Native.Nat.{ℕ, _+_, _-_, _/_, _%_, _^_, min}
 use mathlib.Core.Bool.{Bool, true, false, not, _&&_, _||_}
 use mathlib.Core.List.{List}
 use mathlib.Core.Logic.{_⊎_}
@@ -40,11 +40,8 @@ isCalled s n limit = n .waits && (ltb (s .steps) limit && (leb (n .due) (s .step
 
 -- ---- a run goes to the limit or to the next call, in pieces of at most 65,535 steps
 
-abbrev pub lesser : ℕ → ℕ → ℕ
-lesser a b = pick (ltb a b) a b
-
 unfoldable pub budgetOf : ℕ → ℕ → ℕ → ℕ
-budgetOf steps limit due = lesser (lesser (limit - steps) (due - steps)) 65535
+budgetOf steps limit due = min (min (limit - steps) (due - steps)) 65535
 
 -- ---- what a turn makes of the stand; sums are modulo 2^64
 

@@ -5,10 +5,10 @@ use sheet::State;
 use std::num::wrapping_add_u64;
 use std::num::wrapping_add_usize;
 ghost use mathlib.Core.Path.{_≡_};
-ghost use Prim.Native.Nat.{_≤_, _-_};
+ghost use Prim.Native.Nat.{_-_, min};
 ghost use Rattle.sheet.specs.Width.{pick};
 ghost use lib.Dec.{eqb};
-ghost use Rattle.session.specs.Turns.{begun, nextOf, isCalled, lesser, budgetOf, answeredBy, goesOn, ranBy, Called, Continued, Turn, Plays};
+ghost use Rattle.session.specs.Turns.{begun, nextOf, isCalled, budgetOf, answeredBy, goesOn, ranBy, Called, Continued, Turn, Plays};
 
 // A session's stand: the number of its last run, the machine, sums, and how many of the scheduled calls were made and refused.
 // Sums are taken modulo 2^64, which 10^11 steps of 1,028 cycles do not reach.
@@ -38,7 +38,7 @@ pub fn begin(state: State) -> Session
 }
 
 fn least(a: u64, b: u64) -> u64
-    ensures { λ r. ⌜ (r ≡ lesser a b) × (r ≤ b) ⌝ }
+    ensures { λ r. ⌜ r ≡ min a b ⌝ }
 {
     if a < b {
         return a;

@@ -1,6 +1,6 @@
 -- What each return of the code comes to, over plain values.
 use Prim.Native.Nat.{ℕ, _+_, _≤_, _<_, zero-le}
-use mathlib.Core.Bool.{Bool, true, false, not, _&&_, _||_}
+use mathlib.Core.Bool.{Bool, true, false, not, _&&_, _||_, or-false}
 use mathlib.Core.List.{List}
 use mathlib.Core.Path.{_≡_, refl, _∙_}
 use native.Mathlib.Nat.{add-le-add}
@@ -38,10 +38,6 @@ finishes-traced t h f g ram ram′ rom n e p = record { most = p .most; at = λ 
 pub finishes-untraced : (t h : Bool) (f ram rom : List ℕ) → t ≡ false → Finishes t f ram rom h f ram h nothing
 unfolding singleStep
 finishes-untraced t h f ram rom e = record { most = zero-le; at = λ q tape log. rw e ends-pure }
-
-or-false : (b : Bool) → (b || false) ≡ b
-or-false true = refl
-or-false false = refl
 
 pub settles : (t h j : Bool) (q : Progress) (n m : Bus) (f g ram ram′ rom : List ℕ) → Finishes t f ram rom h g ram′ j m → Settles t h q n f ram rom 0 j q g ram′ (n ⊕ m)
 settles t h j q n m f g ram ram′ rom k = record { zero = refl; places = refl; last = m; sum = refl; finish = k }

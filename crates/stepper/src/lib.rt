@@ -6,7 +6,7 @@ use sheet::Bus;
 use sheet::Instr;
 use sheet::Progress;
 ghost use mathlib.Core.Path.{_≡_};
-ghost use Prim.Native.Nat.{_≤_, min, _+_};
+ghost use Prim.Native.Nat.{_≤_};
 ghost use Rattle.sheet.specs.Log.{rule, risen};
 ghost use mathlib.Core.Bool.{not, _&&_};
 ghost use Rattle.stepper.specs.Proceeds.{begunAt, Finishes, Settles, Proceeds};

@@ -1,10 +1,8 @@
 -- Every code of the tables, and an instruction with its prefixes, by the rules of BoundsReading.
-use Prim.Native.Nat.{ℕ, zero, suc, _+_, _-_, _≤_}
-use mathlib.Core.Bool.{Bool, true, false}
+use Prim.Native.Nat.{ℕ, zero, suc}
 use mathlib.Core.List.{List, _++_}
 use mathlib.Core.Option.{Option, none, some}
 use lib.Dec.{eqb, lit≤}
-use Rattle.sheet.specs.declared.Address.{Address}
 use Rattle.sheet.specs.declared.Place.{Place}
 use Rattle.sheet.specs.declared.Length.{Length}
 use Rattle.sheet.specs.declared.Operation.{Operation}
@@ -14,12 +12,12 @@ use Rattle.sheet.specs.declared.Shift.{Shift}
 use Rattle.sheet.specs.declared.Places.{Places}
 use Rattle.sheet.specs.declared.Prefixes.{Prefixes}
 use Rattle.sheet.specs.declared.Instr.{Instr}
-use Rattle.sheet.specs.Width.{pick}
-use Rattle.sheet.specs.Reading.{Reading, got, _>>=_}
-use Rattle.sheet.specs.Encoding.{Prefix, unprefixed, withPrefix, regField, place, memory, Row, toRegister}
+use Rattle.sheet.specs.Reading.{Reading}
+use Rattle.sheet.specs.Encoding.{Prefix, unprefixed, withPrefix, regField, Row, toRegister}
 use Rattle.sheet.specs.SecondByte.{withPlain, bitInCl, bitGiven, fieldInRegister, fieldGiven, secondBytes}
 use Rattle.sheet.specs.FirstByte.{sixCodes, smallImmediate, withImmediate, withShift, shiftGroup, groupF6, groupFE, groupFF, fromSegment, toSegment, afterTen, withCounted, bytes00, bytes40, bytes80, bytesC0, firstBytes, afterPrefix, prefixed, instruction}
-use Rattle.theorems.proofs.BoundsReading.{Leaf, bind, either, Any, some-leaf, unknown-code, of-byte, of-word, any-byte, of-immediate, of-signedByte, of-allow, of-place, of-memory, of-plainPlace, Fine, ok, of-withPlace, of-withMemory, of-withAcc, of-withByte, of-withWord, of-withShort, of-withFar, Rows, of-lookUp, both, leaf, stop, none-more, _also_}
+use Rattle.portlog.proofs.Picked.{picked}
+use Rattle.theorems.proofs.BoundsReading.{Leaf, bind, into, either, Any, some-leaf, unknown-code, of-byte, of-word, any-byte, of-immediate, of-signedByte, of-allow, of-place, of-memory, of-plainPlace, Fine, ok, of-withPlace, of-withMemory, of-withAcc, of-withByte, of-withWord, of-withShort, of-withFar, Rows, of-lookUp, both, leaf, stop, none-more, _also_}
 
 -- ---- the codes after 0F
 
@@ -33,7 +31,7 @@ of-bitInCl p op n = of-withPlain p _ λ a. ok
 
 of-bitGiven : (p : Prefixes) (op : Bit) (n : ℕ) → Leaf Fine (bitGiven p op n)
 unfolding bitGiven
-of-bitGiven p op n = bind (of-plainPlace p) λ a _. bind of-byte λ b _. leaf ok
+of-bitGiven p op n = bind (of-plainPlace p) λ a _. into _ of-byte λ b. ok
 
 of-fieldInRegister : (k : ℕ → Length → Reading Instr) → ((o : ℕ) (l : Length) → Leaf Fine (k o l)) → Leaf Fine (fieldInRegister k)
 unfolding fieldInRegister
@@ -66,17 +64,13 @@ of-secondBytes p =
 
 -- ---- groups behind a first byte
 
-either-got : {i j : Instr} (c : Bool) → Leaf Fine (got i) → Leaf Fine (got j) → Leaf Fine (got (pick c i j))
-either-got true x y = x
-either-got false x y = y
-
 of-smallImmediate : (n : ℕ) → Leaf Any (smallImmediate n)
 unfolding smallImmediate
 of-smallImmediate n = either (eqb n 1) of-word (either (eqb n 3) of-signedByte any-byte)
 
 of-withImmediate : (p : Prefixes) (n : ℕ) → Leaf Fine (withImmediate p n)
 unfolding withImmediate
-of-withImmediate p n = of-withPlace p _ λ reg a. bind (of-smallImmediate n) λ v _. leaf ok
+of-withImmediate p n = of-withPlace p _ λ reg a. into _ (of-smallImmediate n) λ v. ok
 
 of-withShift : (o : Option Shift) (k : Shift → Reading Instr) → ((s : Shift) → Leaf Fine (k s)) → Leaf Fine (withShift o k)
 unfolding withShift
@@ -85,52 +79,45 @@ of-withShift (some s) k h = h s
 
 of-shiftGroup : (p : Prefixes) (count : Reading Places) → Leaf Any count → (n : ℕ) → Leaf Fine (shiftGroup p count n)
 unfolding shiftGroup
-of-shiftGroup p count h n = bind of-byte λ m _. of-withShift _ _ λ s. bind (of-place p m) λ a _. bind h λ c _. leaf ok
-
--- what follows a place, or an address in memory, is the instruction
-at-place : (p : Prefixes) (m : ℕ) (k : Place → Instr) → ((a : Place) → Fine (k a)) → Leaf Fine (place p m >>= λ a. got (k a))
-at-place p m k h = bind (of-place p m) λ a _. leaf (h a)
-
-at-memory : (p : Prefixes) (m : ℕ) (k : Address → Instr) → ((a : Address) → Fine (k a)) → Leaf Fine (memory p m >>= λ a. got (k a))
-at-memory p m k h = bind (of-memory p m) λ a _. leaf (h a)
+of-shiftGroup p count h n = bind of-byte λ m _. of-withShift _ _ λ s. bind (of-place p m) λ a _. into _ h λ c. ok
 
 of-groupF6 : (p : Prefixes) (n : ℕ) → Leaf Fine (groupF6 p n)
 unfolding groupF6
 of-groupF6 p n =
     bind of-byte λ m _. of-lookUp _ (
-    (λ k. bind (of-place p m) λ a _. bind (of-immediate _) λ v _. leaf ok)
-    also (λ k. at-place p m _ λ a. ok)
-    also (λ k. at-place p m _ λ a. ok)
-    also (λ k. at-place p m _ λ a. ok)
-    also (λ k. at-place p m _ λ a. ok)
-    also (λ k. at-place p m _ λ a. ok)
-    also (λ k. at-place p m _ λ a. ok)
+    (λ k. bind (of-place p m) λ a _. into _ (of-immediate _) λ v. ok)
+    also (λ k. into _ (of-place p m) λ a. ok)
+    also (λ k. into _ (of-place p m) λ a. ok)
+    also (λ k. into _ (of-place p m) λ a. ok)
+    also (λ k. into _ (of-place p m) λ a. ok)
+    also (λ k. into _ (of-place p m) λ a. ok)
+    also (λ k. into _ (of-place p m) λ a. ok)
     also none-more) (regField m)
 
 of-groupFE : (p : Prefixes) → Leaf Fine (groupFE p)
 unfolding groupFE
-of-groupFE p = bind of-byte λ m _. of-lookUp _ ((λ k. at-place p m _ λ a. ok) also (λ k. at-place p m _ λ a. ok) also none-more) (regField m)
+of-groupFE p = bind of-byte λ m _. of-lookUp _ ((λ k. into _ (of-place p m) λ a. ok) also (λ k. into _ (of-place p m) λ a. ok) also none-more) (regField m)
 
 of-groupFF : (p : Prefixes) → Leaf Fine (groupFF p)
 unfolding groupFF
 of-groupFF p =
     bind of-byte λ m _. of-lookUp _ (
-    (λ k. at-place p m _ λ a. ok)
-    also (λ k. at-place p m _ λ a. ok)
-    also (λ k. at-place p m _ λ a. ok)
-    also (λ k. at-memory p m _ λ a. ok)
-    also (λ k. at-place p m _ λ a. ok)
-    also (λ k. at-memory p m _ λ a. ok)
-    also (λ k. at-place p m _ λ a. ok)
+    (λ k. into _ (of-place p m) λ a. ok)
+    also (λ k. into _ (of-place p m) λ a. ok)
+    also (λ k. into _ (of-place p m) λ a. ok)
+    also (λ k. into _ (of-memory p m) λ a. ok)
+    also (λ k. into _ (of-place p m) λ a. ok)
+    also (λ k. into _ (of-memory p m) λ a. ok)
+    also (λ k. into _ (of-place p m) λ a. ok)
     also none-more) (regField m)
 
 of-fromSegment : (p : Prefixes) → Leaf Fine (fromSegment p)
 unfolding fromSegment
-of-fromSegment p = bind of-byte λ m _. bind (of-allow _) λ _ _. at-place p m _ λ a. ok
+of-fromSegment p = bind of-byte λ m _. bind (of-allow _) λ _ _. into _ (of-place p m) λ a. ok
 
 of-toSegment : (p : Prefixes) → Leaf Fine (toSegment p)
 unfolding toSegment
-of-toSegment p = bind of-byte λ m _. bind (of-allow _) λ _ _. at-place p m _ λ a. ok
+of-toSegment p = bind of-byte λ m _. bind (of-allow _) λ _ _. into _ (of-place p m) λ a. ok
 
 of-afterTen : (c : Convert) → Leaf Fine (afterTen c)
 unfolding afterTen
@@ -144,7 +131,7 @@ of-withCounted = bind of-byte λ n _. some-leaf
 
 -- an operation's six codes, and what comes after them
 of-sixCodes : (p : Prefixes) (from : ℕ) (op : Operation) (t : List Row) → Rows t → Rows (sixCodes p from op ++ t)
-of-sixCodes p from op t h = (λ n. of-withPlace p _ λ reg a. either-got (toRegister n) (leaf ok) (leaf ok)) also (λ n. of-withAcc _ _ λ v. ok) also h
+of-sixCodes p from op t h = (λ n. of-withPlace p _ λ reg a. leaf (picked Fine (toRegister n) ok ok)) also (λ n. of-withAcc _ _ λ v. ok) also h
 
 of-bytes00 : (p : Prefixes) → Rows (bytes00 p)
 of-bytes00 p =
@@ -214,7 +201,7 @@ of-bytesC0 p =
     also (λ n. leaf ok)
     also (λ n. of-withMemory p _ λ reg a. ok)
     also (λ n. of-withMemory p _ λ reg a. ok)
-    also (λ n. bind (of-plainPlace p) λ a _. bind (of-immediate _) λ v _. leaf ok)
+    also (λ n. bind (of-plainPlace p) λ a _. into _ (of-immediate _) λ v. ok)
     also (λ n. bind of-word λ size _. bind of-byte λ level h. leaf h)
     also (λ n. leaf ok)
     also (λ n. of-withWord _ λ v. ok)

@@ -1,6 +1,6 @@
 -- What bytes can name, by the rules of reading: PREPARE's level is at most 255, and a refusal is 3 or 4.
 use Prim.Native.Nat.{ℕ, _+_, _-_, _≤_}
-use mathlib.Core.Bool.{Bool, true, false, _&&_}
+use mathlib.Core.Bool.{Bool, _&&_}
 use mathlib.Core.List.{List, [], _∷_, _++_}
 use lib.Dec.{eqb, lit≤}
 use Rattle.sheet.specs.declared.Address.{Address}
@@ -15,6 +15,7 @@ use Rattle.sheet.specs.Reading.{Reading, got, need, no, _>>=_, Read, known, unk
 use Rattle.sheet.specs.Encoding.{modField, memField, displacement, withDisplacement, withOffset, address, inMemory, place, memory, Row, covers, lookUp}
 use Rattle.sheet.specs.SecondByte.{plainPlace}
 use Rattle.sheet.specs.FirstByte.{withPlace, withMemory, withAcc, withByte, withWord, withShort, withFar}
+use Rattle.portlog.proofs.Picked.{picked}
 use Rattle.theorems.proofs.BoundsFlow.{levelOf}
 
 -- Q holds of all that a reading of bytes up to 255 comes to, and its refusals are 3 and 4
@@ -42,8 +43,7 @@ bind {p = need k} (then-byte h) g = then-byte λ b l. bind (h b l) g
 bind {p = no n} (stop x y) g = stop x y
 
 pub either : {A : Type 0} {Q : A → Type 0} {p q : Reading A} (c : Bool) → Leaf Q p → Leaf Q q → Leaf Q (pick c p q)
-either true x y = x
-either false x y = y
+either {A} {Q} = picked (λ (r : Reading A). Leaf Q r)
 
 -- nothing is asked of it
 abbrev pub Any : {A : Type 0} → A → Type 0
@@ -126,33 +126,37 @@ Fine i = levelIn i ≤ 255
 pub ok : 0 ≤ 255
 ok = lit≤ tt
 
+-- what is read goes into an instruction
+pub into : {A : Type 0} {P : A → Type 0} {p : Reading A} (k : A → Instr) → Leaf P p → ((a : A) → Fine (k a)) → Leaf Fine (p >>= λ a. got (k a))
+into k x h = bind x λ a _. leaf (h a)
+
 pub of-withPlace : (p : Prefixes) (k : ℕ → Place → Reading Instr) → ((reg : ℕ) (a : Place) → Leaf Fine (k reg a)) → Leaf Fine (withPlace p k)
 unfolding withPlace
 of-withPlace p k h = bind of-byte λ m _. bind (of-place p m) λ a _. h _ a
 
 pub of-withMemory : (p : Prefixes) (k : ℕ → Address → Instr) → ((reg : ℕ) (a : Address) → Fine (k reg a)) → Leaf Fine (withMemory p k)
 unfolding withMemory
-of-withMemory p k h = bind of-byte λ m _. bind (of-memory p m) λ a _. leaf (h _ a)
+of-withMemory p k h = bind of-byte λ m _. into _ (of-memory p m) λ a. h _ a
 
 pub of-withAcc : (k : Source → Instr) (w : Bool) → ((v : Source) → Fine (k v)) → Leaf Fine (withAcc k w)
 unfolding withAcc
-of-withAcc k w h = bind (of-immediate w) λ v _. leaf (h (Immediate v))
+of-withAcc k w h = into _ (of-immediate w) λ v. h (Immediate v)
 
 pub of-withByte : (k : ℕ → Instr) → ((v : ℕ) → Fine (k v)) → Leaf Fine (withByte k)
 unfolding withByte
-of-withByte k h = bind of-byte λ v _. leaf (h v)
+of-withByte k h = into k of-byte h
 
 pub of-withWord : (k : ℕ → Instr) → ((v : ℕ) → Fine (k v)) → Leaf Fine (withWord k)
 unfolding withWord
-of-withWord k h = bind of-word λ v _. leaf (h v)
+of-withWord k h = into k of-word h
 
 pub of-withShort : (k : ℕ → Instr) → ((v : ℕ) → Fine (k v)) → Leaf Fine (withShort k)
 unfolding withShort
-of-withShort k h = bind of-signedByte λ v _. leaf (h v)
+of-withShort k h = into k of-signedByte h
 
 pub of-withFar : (k : ℕ → ℕ → Instr) → ((ps pc : ℕ) → Fine (k ps pc)) → Leaf Fine (withFar k)
 unfolding withFar
-of-withFar k h = bind of-word λ pc _. bind of-word λ ps _. leaf (h ps pc)
+of-withFar k h = bind of-word λ pc _. into _ of-word λ ps. h ps pc
 
 -- ---- tables
 

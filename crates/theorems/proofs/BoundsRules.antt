@@ -1,9 +1,9 @@
 -- A bound on the bus cycles of a tree from any world, with the refusals that it may come to: one rule for each node and each way of joining trees.
 use Prim.Native.Nat.{ℕ, zero, suc, _+_, _*_, _%_, _≤_}
-use mathlib.Core.Path.{_≡_}
+use mathlib.Core.Path.{_≡_, refl}
 use mathlib.Core.Bool.{Bool, true, false}
-use mathlib.Core.List.{List, []}
-use native.Mathlib.Nat.{le-refl, zero-mul, suc-mul, add-comm}
+use mathlib.Core.List.{List, [], _∷_}
+use native.Mathlib.Nat.{le-refl, le-of-eq, zero-mul, suc-mul, add-comm}
 use native.Mathlib.Omega.{arith}
 use lib.ListN.{length}
 use lib.Dec.{leb, lit≤}
@@ -14,9 +14,10 @@ use Rattle.sheet.specs.Registers.{File, fileOf}
 use Rattle.sheet.specs.Memory.{busCycles}
 use Rattle.sheet.specs.World.{World}
 use Rattle.sheet.specs.Act.{Act, pure, get, flags, _>>=_, registers, _≔_, flag, psw, peek, poke, inp, out, halted, loop}
-use Rattle.sheet.specs.Handler.{Access, short, through, recording, inputs, outputs, ported, done, then, takes, gives, run, runBy, tally}
-use Rattle.sheet.specs.Contract.{Seen, stops, ends, seen, exec}
-use Rattle.sheet.proofs.Rules.{plus, andThen, exec-bind}
+use Rattle.sheet.specs.Handler.{Event, Access, short, through, recording, inputs, outputs, ported, done, then, takes, gives, nothing, run, runBy, tally}
+use Rattle.sheet.specs.Contract.{Seen, stops, ends, seen, exec, Ends}
+use Rattle.sheet.proofs.Rules.{plus, andThen, exec-bind, ends-pure, ends-registers, ends-set, ends-flag, ends-psw, ends-flags, ends-halted}
+use Rattle.portlog.proofs.Picked.{picked}
 
 -- an end in at most n cycles, or one of the refusals that a port access gives, 5 and 6
 pub data Within {A : Type 0} (n : ℕ) : Seen A → Type 0 where
@@ -52,18 +53,19 @@ up {p = p} {a = a} {b = b} h m = record { at = λ w. wider a b (exec p w) h (m .
 
 -- whichever of two trees is chosen
 pub either-way : {A : Type 0} {p q : Act A} {n : ℕ} (c : Bool) → Most A p n → Most A q n → Most A (pick c p q) n
-either-way true x y = x
-either-way false x y = y
+either-way {A} {n = n} = picked (λ (r : Act A). Most A r n)
 
 -- ---- nodes
 
+-- a tree that makes no access
+free : {A : Type 0} {p : Act A} {a : World → A} {v : World → World} → ((w : World) → Ends A p w (a w) (v w) nothing) → Most A p 0
+free h = record { at = λ w. rw (h w .is) (within (le-refl 0)) }
+
 pub of-pure : {A : Type 0} {a : A} → Most A (pure a) 0
-unfolding exec run runBy tally
-of-pure = record { at = λ w. within (le-refl 0) }
+of-pure = free (λ w. ends-pure)
 
 pub of-registers : Most File registers 0
-unfolding exec run runBy tally
-of-registers = record { at = λ w. within (le-refl 0) }
+of-registers = free (λ w. ends-registers)
 
 -- what follows may rest on what the registers hold
 pub of-get : {A : Type 0} {k : File → Act A} {n : ℕ} → ((r : File) → Most A (k r) n) → Most A (get k) n
@@ -71,24 +73,19 @@ unfolding exec run runBy
 of-get h = record { at = λ w. h (fileOf (w .state .file)) .at w }
 
 pub of-set : {n v : ℕ} → Most Unit (n ≔ v) 0
-unfolding exec run runBy tally
-of-set = record { at = λ w. within (le-refl 0) }
+of-set {n} {v} = free (λ w. ends-set n v)
 
 pub of-flag : {f : Flag} → Most Bool (flag f) 0
-unfolding exec run runBy tally
-of-flag = record { at = λ w. within (le-refl 0) }
+of-flag {f} = free (λ w. ends-flag f)
 
 pub of-psw : {b : Bool} → Most ℕ (psw b) 0
-unfolding exec run runBy tally
-of-psw = record { at = λ w. within (le-refl 0) }
+of-psw {b} = free (λ w. ends-psw b)
 
 pub of-flags : {c : Flag → Effect} → Most Unit (flags c (pure tt)) 0
-unfolding exec run runBy tally
-of-flags = record { at = λ w. within (le-refl 0) }
+of-flags {c} = free (λ w. ends-flags c refl)
 
 pub of-halted : {b : Bool} → Most Unit (halted b) 0
-unfolding exec run runBy tally
-of-halted = record { at = λ w. within (le-refl 0) }
+of-halted {b} = free (λ w. ends-halted b)
 
 -- an access takes at most 2 cycles, one of a byte or at an even address 1
 pub cycles-top : (b : Bool) (o : ℕ) → busCycles b o + 0 ≤ 2
@@ -96,29 +93,37 @@ unfolding busCycles
 cycles-top false o = omega arith
 cycles-top true o = omega arith
 
-pub of-peek : {b : Bool} {g o : ℕ} → Most ℕ (peek b g o) 2
-unfolding exec run runBy tally
-of-peek {b} {g} {o} = record { at = λ w. within (cycles-top b o) }
+byte-cycles : (o : ℕ) → busCycles false o + 0 ≤ 1
+unfolding busCycles
+byte-cycles o = le-refl 1
 
-pub of-poke : {b : Bool} {g o v : ℕ} → Most Unit (poke b g o v) 2
-unfolding exec run runBy tally
-of-poke {b} {g} {o} {v} = record { at = λ w. within (cycles-top b o) }
-
-pub of-peek-byte : {g o : ℕ} → Most ℕ (peek false g o) 1
-unfolding exec run runBy tally busCycles
-of-peek-byte = record { at = λ w. within (le-refl 1) }
-
-pub of-poke-byte : {g o v : ℕ} → Most Unit (poke false g o v) 1
-unfolding exec run runBy tally busCycles
-of-poke-byte = record { at = λ w. within (le-refl 1) }
-
-even-cycles : (o : ℕ) → o % 2 ≡ 0 → busCycles true o + 0 ≤ 1
+pub even-cycles : (o : ℕ) → o % 2 ≡ 0 → busCycles true o + 0 ≡ 1
 unfolding busCycles
 even-cycles o e = omega arith
 
+module _ {b : Bool} {g o n : ℕ} (h : busCycles b o + 0 ≤ n) where
+  peeks : Most ℕ (peek b g o) n
+  unfolding exec run runBy tally
+  peeks = record { at = λ w. within h }
+
+  pokes : {v : ℕ} → Most Unit (poke b g o v) n
+  unfolding exec run runBy tally
+  pokes = record { at = λ w. within h }
+
+pub of-peek : {b : Bool} {g o : ℕ} → Most ℕ (peek b g o) 2
+of-peek {b} {g} {o} = peeks (cycles-top b o)
+
+pub of-poke : {b : Bool} {g o v : ℕ} → Most Unit (poke b g o v) 2
+of-poke {b} {g} {o} = pokes (cycles-top b o)
+
+pub of-peek-byte : {g o : ℕ} → Most ℕ (peek false g o) 1
+of-peek-byte {g} {o} = peeks (byte-cycles o)
+
+pub of-poke-byte : {g o v : ℕ} → Most Unit (poke false g o v) 1
+of-poke-byte {g} {o} = pokes (byte-cycles o)
+
 pub of-peek-even : {g o : ℕ} → o % 2 ≡ 0 → Most ℕ (peek true g o) 1
-unfolding exec run runBy tally
-of-peek-even {g} {o} e = record { at = λ w. within (even-cycles o e) }
+of-peek-even {g} {o} e = peeks (le-of-eq (even-cycles o e))
 
 -- ---- ports
 
@@ -126,10 +131,6 @@ of-peek-even {g} {o} e = record { at = λ w. within (even-cycles o e) }
 data Passes : Access → Type 0 where
   passes : {v : ℕ} {w : World} → Passes (through v w)
   fails : {k : ℕ} → 5 ≤ k → k ≤ 6 → Passes (short k)
-
-either-passes : {r s : Access} (c : Bool) → Passes r → Passes s → Passes (pick c r s)
-either-passes true x y = x
-either-passes false x y = y
 
 short-five : Passes (short 5)
 short-five = fails (lit≤ tt) (lit≤ tt)
@@ -139,33 +140,28 @@ short-six = fails (lit≤ tt) (lit≤ tt)
 
 recording-passes : (w : World) (v m : ℕ) (b : List ℕ) → Passes (recording w v m b)
 unfolding recording
-recording-passes w v m b = either-passes (leb (w .state .log + length b) (length (w .log))) passes short-six
+recording-passes w v m b = picked Passes (leb (w .state .log + length b) (length (w .log))) passes short-six
 
 inputs-passes : (b : Bool) (n : ℕ) (w : World) → Passes (inputs b n w)
 unfolding inputs
-inputs-passes b n w = either-passes (leb (w .state .tape + bytesOf b) (length (w .tape))) (recording-passes _ _ _ _) short-five
+inputs-passes b n w = picked Passes (leb (w .state .tape + bytesOf b) (length (w .tape))) (recording-passes _ _ _ _) short-five
 
 outputs-passes : (b : Bool) (n v : ℕ) (w : World) → Passes (outputs b n v w)
 unfolding outputs
 outputs-passes b n v w = recording-passes _ _ _ _
 
-inp-within : (b : Bool) (n : ℕ) (r : Access) → Passes r → Within {A = ℕ} 2 (seen (ported r (λ v w. then (takes b n v) (done v w []))))
-unfolding tally
-inp-within b n (through v w) passes = within (cycles-top b n)
-inp-within b n (short k) (fails f g) = short-of f g
-
-out-within : (b : Bool) (n v : ℕ) (r : Access) → Passes r → Within {A = Unit {0}} 2 (seen (ported r (λ x w. then (gives b n v) (done tt w []))))
-unfolding tally
-out-within b n v (through x w) passes = within (cycles-top b n)
-out-within b n v (short k) (fails f g) = short-of f g
+ported-within : {A : Type 0} {m : ℕ} (e : ℕ → Event) (a : ℕ → A) → ((v : ℕ) → tally (e v ∷ []) .cycles ≤ m) → (r : Access) → Passes r
+    → Within m (seen (ported r (λ v w. then (e v) (done (a v) w []))))
+ported-within e a h (through v w) passes = within (h v)
+ported-within e a h (short k) (fails f g) = short-of f g
 
 pub of-inp : {b : Bool} {n : ℕ} → Most ℕ (inp b n) 2
-unfolding exec run runBy
-of-inp {b} {n} = record { at = λ w. inp-within b n (inputs b n w) (inputs-passes b n w) }
+unfolding exec run runBy tally
+of-inp {b} {n} = record { at = λ w. ported-within (takes b n) (λ v. v) (λ v. cycles-top b n) (inputs b n w) (inputs-passes b n w) }
 
 pub of-out : {b : Bool} {n v : ℕ} → Most Unit (out b n v) 2
-unfolding exec run runBy
-of-out {b} {n} {v} = record { at = λ w. out-within b n v (outputs b n v w) (outputs-passes b n v w) }
+unfolding exec run runBy tally
+of-out {b} {n} {v} = record { at = λ w. ported-within (λ x. gives b n v) (λ x. tt) (λ x. cycles-top b n) (outputs b n v w) (outputs-passes b n v w) }
 
 -- ---- repeats
 

@@ -1,8 +1,8 @@
 -- No step makes more than 1,028 bus cycles and no interrupt call more than 8; and the numbers that a refusal can have.
 use Prim.Native.Nat.{ℕ, _+_, _-_, _≤_}
-use mathlib.Core.Path.{_≡_, refl}
-use mathlib.Core.Bool.{Bool, true, false, not, _&&_}
-use mathlib.Core.List.{List}
+use mathlib.Core.Path.{_≡_, refl, _∙_}
+use mathlib.Core.Bool.{Bool, true, false, not, _&&_, true≢false}
+use mathlib.Core.List.{List, _∷_}
 use lib.ListN.{length}
 use native.Mathlib.Omega.{arith}
 use lib.Dec.{eqb, leb, ltb, lit≤}
@@ -15,15 +15,18 @@ use Rattle.sheet.specs.Psw.{IE, flagOf}
 use Rattle.sheet.specs.Registers.{PS, PC, fileOf}
 use Rattle.sheet.specs.Memory.{byteAt}
 use Rattle.sheet.specs.World.{World, pswOf}
-use Rattle.sheet.specs.Handler.{Event, done, kept, run, runBy, tally}
+use Rattle.sheet.specs.Handler.{Event, Outcome, done, kept, run, runBy, tally}
 use Rattle.sheet.specs.Contract.{Seen, stops, ends, seen, exec}
 use Rattle.sheet.specs.Reading.{Read, known, unknown, scan}
 use Rattle.sheet.specs.FirstByte.{instruction}
 use Rattle.sheet.specs.Execute.{operation, execute}
-use Rattle.sheet.specs.Step.{fits, sound, refusal, codeAt, source, interrupting, singleStep, stepping, counted, decoded, awake, stepBy, step, interruptBy, interrupt}
+use Rattle.sheet.specs.Step.{fits, sound, checked, refusal, codeAt, source, interrupting, singleStep, stepping, counted, decoded, awake, stepBy, step, interruptBy, interrupt}
 use Rattle.sheet.specs.Act.{_>>=_}
 use Rattle.sheet.specs.Traps.{push, pushPsw, pushPsPc, jumpFar, save, trap}
 use Rattle.theorems.specs.Bounds.{Bytes, stepTop, interruptTop, stepRefusals, interruptRefusals, Among, first, later, Comes, ends-in, stops-by}
+use Rattle.portlog.proofs.Picked.{picked}
+use Rattle.engine.proofs.Laws.{awake-known}
+use Rattle.engine.proofs.RunLaws.{step-on}
 use Rattle.theorems.proofs.BoundsRules.{Within, within, short-of, Most, seq, up, of-pure, of-registers, of-set, of-flag, of-halted}
 use Rattle.theorems.proofs.BoundsOperands.{of-trap}
 use Rattle.theorems.proofs.BoundsGroups.{of-transfer, of-calculate, of-untrapped, of-multiply, of-convert, of-shift, of-bits, of-decimal, of-field}
@@ -70,18 +73,19 @@ of-stepping i h n = seq of-flag λ traced. seq (of-execute i h n) λ trapped. of
 
 -- ---- the bytes of the instruction
 
-at-most : (c : Bool) (a b n : ℕ) → a ≤ n → b ≤ n → pick c a b ≤ n
-at-most true a b n h g = h
-at-most false a b n h g = g
-
 byte-top : (ram rom : List ℕ) → Bytes ram → Bytes rom → (a : ℕ) → byteAt ram rom a ≤ 255
 unfolding byteAt
-byte-top ram rom h g a = at-most (ltb a (length ram)) _ _ 255 (h a) (at-most (leb 1048576 (a + length rom)) _ _ 255 (g (a + length rom - 1048576)) (lit≤ tt))
+byte-top ram rom h g a = picked (λ (n : ℕ). n ≤ 255) (ltb a (length ram)) (h a) (picked (λ (n : ℕ). n ≤ 255) (leb 1048576 (a + length rom)) (g (a + length rom - 1048576)) (lit≤ tt))
 
 reads-fine : (w : World) → Bytes (w .ram) → Bytes (w .rom) → Scanned Fine (scan instruction (source w) 0)
 reads-fine w h g = scanned instruction of-instruction (source w) (λ j. byte-top (w .ram) (w .rom) h g (codeAt (fileOf (w .state .file) PS) (fileOf (w .state .file) PC) j)) 0
 
 -- ---- the calls
+
+-- a step that is to be made does the instruction that it finds
+pub step-is : (w : World) (i : Instr) (n : ℕ) → (fits w ≡ true) × (sound w ≡ true) → w .state .halted ≡ false → scan instruction (source w) 0 ≡ known i n → step w ≡ run (stepping i n) (counted w)
+unfolding step run
+step-is w i n good up there = step-on w good ∙ awake-known w i n up there
 
 one-of-two : (k n : ℕ) → n ≤ k → k ≤ n + 1 → (P : ℕ → Type 0) → P n → P (n + 1) → P k
 one-of-two k n h g P x y = go (eqb k n) refl
@@ -101,18 +105,20 @@ within-step : (e : Seen Unit) → Within stepTop e → Comes stepTop stepRefusal
 within-step (ends tt w m) (within h) = ends-in h
 within-step (stops k) (short-of f g) = stops-by (as-ported k f g)
 
+-- the checks that every call makes first refuse by 1 and 2
+checked-comes : {n : ℕ} {l : List ℕ} (w : World) (o : Outcome Unit) → Comes n (1 ∷ 2 ∷ l) (seen o) → Comes n (1 ∷ 2 ∷ l) (seen (checked w refusal o))
+checked-comes {n} {l} w o h =
+    picked (λ (r : Outcome Unit). Comes n (1 ∷ 2 ∷ l) (seen r)) (fits w) (picked (λ (r : Outcome Unit). Comes n (1 ∷ 2 ∷ l) (seen r)) (sound w) h (stops-by (later first))) (stops-by first)
+
 -- every step, of any machine over memory of bytes
 pub step-comes : (w : World) → Bytes (w .ram) → Bytes (w .rom) → Comes stepTop stepRefusals (seen (step w))
 unfolding step stepBy awake decoded exec run
-step-comes w h g = go (fits w) (sound w) (w .state .halted) (scan instruction (source w) 0) (reads-fine w h g)
+step-comes w h g = checked-comes w (awake kept w) (go (w .state .halted) (scan instruction (source w) 0) (reads-fine w h g))
   where
-    go : (f s t : Bool) (r : Read Instr) → Scanned Fine r
-        → Comes stepTop stepRefusals (seen (pick f (pick s (pick t (refusal 8) (decoded kept r w)) (refusal 2)) (refusal 1)))
-    go true true false (known i n) (read q) = within-step _ (of-stepping i q n .at (counted w))
-    go true true false (unknown k n) (unread a b) = stops-by (as-read k a b)
-    go true true true r q = stops-by (later (later first))
-    go true false t r q = stops-by (later first)
-    go false s t r q = stops-by first
+    go : (t : Bool) (r : Read Instr) → Scanned Fine r → Comes stepTop stepRefusals (seen (pick t (refusal 8) (decoded kept r w)))
+    go false (known i n) (read q) = within-step _ (of-stepping i q n .at (counted w))
+    go false (unknown k n) (unread a b) = stops-by (as-read k a b)
+    go true r q = stops-by (later (later first))
 
 -- ---- an interrupt call
 
@@ -126,23 +132,18 @@ ends-most n x m (within h) = h
 
 pub interrupt-comes : (v : ℕ) (maskable : Bool) (w : World) → Comes interruptTop interruptRefusals (seen (interrupt v maskable w))
 unfolding interrupt interruptBy exec run
-interrupt-comes v maskable w = go (fits w) (sound w) (maskable && not (flagOf (pswOf (w .state)) IE)) (interrupting-ends v w)
+interrupt-comes v maskable w = checked-comes w _ (go (maskable && not (flagOf (pswOf (w .state)) IE)) (interrupting-ends v w))
   where
-    go : (f s t : Bool) → (x : World) × (m : Bus) × (exec (interrupting v) w ≡ ends tt x m)
-        → Comes interruptTop interruptRefusals (seen (pick f (pick s (pick t (refusal 7) (run (interrupting v) w)) (refusal 2)) (refusal 1)))
-    go true true false q = rw (q .2) (ends-in (ends-most 8 _ _ (rw (q .2) at (of-interrupting v .at w))))
-    go true true true q = stops-by (later (later first))
-    go true false t q = stops-by (later first)
-    go false s t q = stops-by first
+    go : (t : Bool) → (x : World) × (m : Bus) × (exec (interrupting v) w ≡ ends tt x m)
+        → Comes interruptTop interruptRefusals (seen (pick t (refusal 7) (run (interrupting v) w)))
+    go false q = rw (q .2) (ends-in (ends-most 8 _ _ (rw (q .2) at (of-interrupting v .at w))))
+    go true q = stops-by (later (later first))
 
 -- ---- in one line each
 
-no-ends : {k : ℕ} {w : World} {m : Bus} → _≡_ {A = Seen Unit} (stops k) (ends tt w m) → ⊥
-no-ends e = let z : _≡_ {A = ℕ} 0 1 = cc in omega arith
-
 same-bus : {n : ℕ} {refusals : List ℕ} (e : Seen Unit) → Comes n refusals e → (v : World) (m : Bus) → e ≡ ends tt v m → m .cycles ≤ n
 same-bus (ends tt w b) (ends-in h) v m q = let z : b ≡ m = cc in rw (← z) h
-same-bus (stops k) (stops-by h) v m q = absurd (no-ends q)
+same-bus (stops k) (stops-by h) v m q = absurd (true≢false cc)
 
 pub at-most-1028 : (w v : World) (t : List Event) → Bytes (w .ram) → Bytes (w .rom) → step w ≡ done tt v t → tally t .cycles ≤ stepTop
 at-most-1028 w v t h g e = same-bus (seen (step w)) (step-comes w h g) v (tally t) (rw e)

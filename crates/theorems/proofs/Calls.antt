@@ -7,10 +7,11 @@ use native.Mathlib.Omega.{arith}
 use lib.Dec.{lit≤}
 use Rattle.sheet.specs.declared.Bus.{Bus}
 use Rattle.sheet.specs.World.{World}
-use Rattle.sheet.specs.Handler.{Outcome, refused, done, nothing, tally}
+use Rattle.sheet.specs.Handler.{nothing}
 use Rattle.sheet.specs.Contract.{Seen, stops, ends, seen, Report, report, reportOf}
 use Rattle.sheet.specs.Step.{step, stepReport, interrupt, interruptReport}
-use Rattle.theorems.specs.Bounds.{Bytes, stepTop, interruptTop, stepRefusals, interruptRefusals, Among, first, later, Comes, ends-in, stops-by, Done}
+use Rattle.theorems.specs.Bounds.{Bytes, stepTop, interruptTop, stepRefusals, interruptRefusals, Among, first, later, Comes, ends-in, stops-by}
+use Rattle.engine.proofs.RunLaws.{Done, as-done}
 use Rattle.theorems.proofs.BoundsStep.{step-comes, interrupt-comes}
 
 -- ---- one report
@@ -20,10 +21,14 @@ report-once r n n′ w w′ b b′ e f = (cc, cc, cc)
 
 -- ---- what a refusal hands back
 
--- a number other than 0: the world that was given, and no cycle
+-- a number other than 0 is a refusal's
+pub stops-at : (w v : World) (e : Seen Unit) (n : ℕ) (b : Bus) → reportOf w e ≡ report n v b → (n ≡ 0 → ⊥) → e ≡ stops n
+stops-at w v (stops k) n b q h = let z : k ≡ n = cc in rw z
+stops-at w v (ends tt x m) n b q h = absurd (h (cc))
+
+-- the world that was given, and no cycle
 hands-back : (w v : World) (e : Seen Unit) (n : ℕ) (b : Bus) → reportOf w e ≡ report n v b → (n ≡ 0 → ⊥) → (v ≡ w) × (b ≡ nothing)
-hands-back w v (stops k) n b q h = (cc, cc)
-hands-back w v (ends tt x m) n b q h = absurd (h (cc))
+hands-back w v e n b q h = let z : report n w nothing ≡ report n v b = rw (stops-at w v e n b q h) at q in (cc, cc)
 
 pub step-hands-back : (w v : World) (n : ℕ) (b : Bus) → stepReport w ≡ report n v b → (n ≡ 0 → ⊥) → (v ≡ w) × (b ≡ nothing)
 unfolding stepReport
@@ -53,13 +58,6 @@ ends-at-zero n refusals p w v b (stops k) (stops-by a) q =
     let z : k ≡ 0 = cc in
     let l = positive refusals k p a in
     absurd (omega arith)
-
-as-done : (o : Outcome Unit) (v : World) (b : Bus) → seen o ≡ ends tt v b → Done o v b
-as-done (done tt x t) v b e =
-    let y : x ≡ v = cc in
-    let z : tally t ≡ b = cc in
-    record { events = t; is = rw y; sum = z }
-as-done (refused n t) v b e = let z : _≡_ {A = ℕ} 0 1 = cc in absurd (omega arith)
 
 pub step-done : (w v : World) (b : Bus) → Bytes (w .ram) → Bytes (w .rom) → stepReport w ≡ report 0 v b → Done (step w) v b
 unfolding stepReport

@@ -9,6 +9,7 @@ use Rattle.sheet.specs.declared.State.{State}
 use Rattle.sheet.specs.declared.Entry.{Entry}
 use Rattle.sheet.specs.World.{World, world}
 use Rattle.sheet.specs.Handler.{nothing}
+use Rattle.sheet.specs.Contract.{Report, report}
 use Rattle.sheet.specs.Step.{reset}
 use Rattle.sheet.specs.Run.{RunReport, runReported}
 use Rattle.portlog.specs.declared.Put.{Put}
@@ -25,27 +26,28 @@ use Rattle.sheet.proofs.SmallTable.{small-table}
 
 -- ---- what code returns and lends back, as a world
 
--- worlds that are alike have like parts
+-- worlds that are alike have like parts, and so have reports
 parts : (s s₂ : State) (ram ram₂ rom tape log log₂ : List ℕ) → world s ram rom tape log ≡ world s₂ ram₂ rom tape log₂ → (s ≡ s₂) × (ram ≡ ram₂) × (log ≡ log₂)
 parts s s₂ ram ram₂ rom tape log log₂ e = (ap (λ (w : World). w .state) e, ap (λ (w : World). w .ram) e, ap (λ (w : World). w .log) e)
+
+reported : {r : Report} {n n₂ : ℕ} {s s₂ : State} {ram ram₂ rom tape log log₂ : List ℕ} {b b₂ : Bus} → r ≡ report n (world s ram rom tape log) b → r ≡ report n₂ (world s₂ ram₂ rom tape log₂) b₂
+    → (n ≡ n₂) × (s ≡ s₂) × (ram ≡ ram₂) × (log ≡ log₂) × (b ≡ b₂)
+reported e f =
+    let (number, left, bus) = report-once _ _ _ _ _ _ _ e f in
+    let (state, ram, log) = parts _ _ _ _ _ _ _ _ left in
+    (number, state, ram, log, bus)
 
 -- ---- one result only
 
 pub step-once : {s : State} {ram rom tape log : List ℕ} {n n₂ : ℕ} {s′ s₂ : State} {ram′ ram₂ log′ log₂ : List ℕ} {b b₂ : Bus}
     → Steps s ram rom tape log n s′ ram′ log′ b → Steps s ram rom tape log n₂ s₂ ram₂ log₂ b₂
     → (n ≡ n₂) × (s′ ≡ s₂) × (ram′ ≡ ram₂) × (log′ ≡ log₂) × (b ≡ b₂)
-step-once x y =
-    let (number, left, bus) = report-once _ _ _ _ _ _ _ (x .is) (y .is) in
-    let (state, ram, log) = parts _ _ _ _ _ _ _ _ left in
-    (number, state, ram, log, bus)
+step-once x y = reported (x .is) (y .is)
 
 pub interrupt-once : {vector : ℕ} {maskable : Bool} {s : State} {ram rom tape log : List ℕ} {n n₂ : ℕ} {s′ s₂ : State} {ram′ ram₂ : List ℕ} {b b₂ : Bus}
     → Interrupts vector maskable s ram rom tape log n s′ ram′ b → Interrupts vector maskable s ram rom tape log n₂ s₂ ram₂ b₂
     → (n ≡ n₂) × (s′ ≡ s₂) × (ram′ ≡ ram₂) × (b ≡ b₂)
-interrupt-once x y =
-    let (number, left, bus) = report-once _ _ _ _ _ _ _ (x .is) (y .is) in
-    let (state, ram, log) = parts _ _ _ _ _ _ _ _ left in
-    (number, state, ram, bus)
+interrupt-once x y = let (number, state, ram, log, bus) = reported (x .is) (y .is) in (number, state, ram, bus)
 
 report-of-run-once : (r : RunReport) (n n₂ : ℕ) (w w₂ : World) (k k₂ : ℕ) (b b₂ : Bus) → r ≡ runReported n w k b → r ≡ runReported n₂ w₂ k₂ b₂ → (n ≡ n₂) × (w ≡ w₂) × (k ≡ k₂) × (b ≡ b₂)
 report-of-run-once r n n₂ w w₂ k k₂ b b₂ e f = (cc, cc, cc, cc)
@@ -100,13 +102,7 @@ interrupt-refused x h =
 
 pub code-subtracts : {n : ℕ} {s′ : State} {ram′ log′ : List ℕ} {b : Bus} → Steps (subtracting .state) (subtracting .ram) [] [] [] n s′ ram′ log′ b
     → (n ≡ 0) × (s′ ≡ subtracted .state) × (ram′ ≡ subtracted .ram) × (b ≡ record { cycles = 3 })
-code-subtracts x =
-    let (number, left, bus) = report-once _ _ _ _ _ _ _ (x .is) (small-table .sub4s) in
-    let (state, ram, log) = parts _ _ _ _ _ _ _ _ left in
-    (number, state, ram, bus)
+code-subtracts x = let (number, state, ram, log, bus) = reported (x .is) (small-table .sub4s) in (number, state, ram, bus)
 
 pub code-asleep : {n : ℕ} {s′ : State} {ram′ log′ : List ℕ} {b : Bus} → Steps (asleep .state) (asleep .ram) [] [] [] n s′ ram′ log′ b → (n ≡ 8) × (s′ ≡ asleep .state) × (b ≡ nothing)
-code-asleep x =
-    let (number, left, bus) = report-once _ _ _ _ _ _ _ (x .is) asleep-refused in
-    let (state, ram, log) = parts _ _ _ _ _ _ _ _ left in
-    (number, state, bus)
+code-asleep x = let (number, state, ram, log, bus) = reported (x .is) asleep-refused in (number, state, bus)

@@ -1,27 +1,28 @@
 -- Demand 3, of every engine whose calls tell what the definition's calls come to.
 use Prim.Native.Nat.{ℕ, zero, suc, _-_, _≤_, _<_}
 use mathlib.Core.Path.{_≡_, refl, sym, ap, ap₂, subst, _∙_}
-use mathlib.Core.Bool.{Bool, true, false, or-true}
+use mathlib.Core.Bool.{Bool, true, false, or-true, true≢false}
 use mathlib.Core.List.{List, [], _∷_, _++_}
 use native.Mathlib.Decide.{decLt}
 use native.Mathlib.Nat.{le-refl, not-suc-le-zero, sub-zero}
 use native.Mathlib.Omega.{arith}
-use lib.Dec.{eqb, eqb·suc-zero}
+use borrow.Author.Tests.{ne-eqb}
 use lib.ListN.{getD, set}
 use Rattle.sheet.specs.declared.Instr.the-variants.{Blocks}
 use Rattle.sheet.specs.Width.{pick, sub16}
 use Rattle.sheet.specs.Registers.{CW, IX, IY, DS1, PS, PC, fileOf, segment}
 use Rattle.sheet.specs.Memory.{byteAt}
 use Rattle.sheet.specs.World.{World, pswOf}
-use Rattle.sheet.specs.Handler.{Event, Outcome, refused, done, kept, run, happened}
+use Rattle.sheet.specs.Handler.{Event, Outcome, refused, done, kept, happened}
 use Rattle.sheet.specs.Reading.{known, scan}
 use Rattle.sheet.specs.FirstByte.{instruction}
 use Rattle.sheet.specs.Step as sheet
-use Rattle.sheet.specs.Step.{fits, sound, refusal, codeAt, source, stepping, decoded, awake, stepBy, step, interrupt}
+use Rattle.sheet.specs.Step.{fits, sound, refusal, codeAt, source, awake, stepBy, step, interrupt}
 use Rattle.sheet.proofs.ReadingLaws.{scan-rests}
 use Rattle.sheet.proofs.Lent.{Lent, Sound, Good}
 use Rattle.sheet.proofs.StepLaws.{sound-is, step-leaves, interrupt-leaves}
 use Rattle.engine.proofs.RunLaws.{sound-so, fits-so}
+use Rattle.theorems.proofs.BoundsStep.{step-is}
 use Rattle.theorems.specs.Repeat.{Block, ends, single, singles, elements, reg, Kept, own-byte, source-byte, target-byte, past, placed, Engine, Call, stepped, interrupted, Calls, no-call, and-then, Gap, quiet, service, Own, begun, next-own, Answered, shown, Taken, After, Claimed, Demand3}
 use Rattle.theorems.specs.RepeatEngines.{accesses, Tells, accepts, refuses, engine, definition}
 use Rattle.theorems.proofs.RepeatCount.{firstOr-le, firstOr-pos, firstOr-before, firstOr-end}
@@ -38,12 +39,9 @@ pub record Faithful (E : Engine) : Type 0 where
 
 -- ---- a step that is accepted
 
-not-done : {n : ℕ} {t t′ : List Event} {v : World} → _≡_ {A = Outcome Unit} (refused n t) (done tt v t′) → ⊥
-not-done e = let z : _≡_ {A = ℕ} 0 1 = cc in omega arith
-
 -- a call that is refused by a number other than 0 does not tell 0
 not-zero : {O : Type 0} {of : List Event → O} {w v : World} {out : Outcome Unit} {o : O} (n : ℕ) → Tells of w out 0 v o → out ≡ refusal (suc n) → ⊥
-not-zero n (accepts e) h = not-done (sym h ∙ e)
+not-zero n (accepts e) h = true≢false cc
 not-zero n (refuses e) h = let z : _≡_ {A = ℕ} 0 (suc n) = cc in omega arith
 
 pub record Ready (w : World) : Type 0 where
@@ -63,15 +61,10 @@ ready {w = w} h = go (fits w) (sound w) (w .state .halted) refl refl refl
     go false s u a b c = absurd (not-zero 0 h (rw a))
 
 -- what is read at PS:PC is what the step does
-turns : (w : World) (i : Block) → Ready w → scan instruction (source w) 0 ≡ known (Blocks (i .kind) (i .word) (i .seg) (i .repeat)) (i .size)
-    → step w ≡ run (stepping (Blocks (i .kind) (i .word) (i .seg) (i .repeat)) (i .size)) (sheet.counted w)
-unfolding step stepBy awake decoded run
-turns w i r e = rw (r .fit, r .good, r .up, e)
-
 pub turned : (w : World) (i : Block) {file ram : List ℕ} {events : List Event} → Ready w
     → scan instruction (source w) 0 ≡ known (Blocks (i .kind) (i .word) (i .seg) (i .repeat)) (i .size)
     → (made : Turned (i .kind) (i .word) (i .seg) (i .repeat) (i .size) (sheet.counted w) file ram events) → step w ≡ done tt (made .v) (made .t)
-turned w i r e made = turns w i r e ∙ made .ran .is
+turned w i r e made = step-is w _ (i .size) (r .fit, r .good) (r .up) e ∙ made .ran .is
 
 -- ---- calls keep what is lent, and a sound state
 
@@ -90,22 +83,22 @@ step-good : {w v : World} {t : List Event} → Sound w → step w ≡ done tt v 
 unfolding step
 step-good {w} {v} {t} s e = step-leaves kept w v t (s .whole) e
 
+-- what holds of the world that a call is given, and of what it leaves where it is done, holds of the world that it tells
+pub told-so : {O : Type 0} {of : List Event → O} {w v : World} {out : Outcome Unit} {n : ℕ} {o : O} (P : World → Type 0) → P w → ((u : World) (t : List Event) → out ≡ done tt u t → P u) → Tells of w out n v o → P v
+told-so P p f (accepts {v} {t} e) = f v t e
+told-so P p f (refuses e) = p
+
+pub good-itself : {w : World} → Sound w → Good w w
+good-itself {w} s = record { lent = lent-refl w; sound = s }
+
 module _ (E : Engine) (F : Faithful E) where
   pub call-leaves : {w v : World} → Sound w → Call E w v → Good w v
   unfolding interrupt
-  call-leaves {w} s (stepped o h) = go (F .step-tells h)
-    where
-      go : {v : World} {o : E .Shown} → Tells (E .of) w (step w) 0 v o → Good w v
-      go (accepts e) = step-good s e
-      go (refuses e) = record { lent = lent-refl w; sound = s }
-  call-leaves {w} s (interrupted x m o r h) = go (F .interrupt-tells h)
-    where
-      go : {v : World} {o : E .Shown} → Tells (E .of) w (interrupt x m w) 0 v o → Good w v
-      go (accepts {v = v} {t = t} e) = interrupt-leaves kept w v t (s .whole) x m e
-      go (refuses e) = record { lent = lent-refl w; sound = s }
+  call-leaves {w} s (stepped o h) = told-so (Good w) (good-itself s) (λ u t e. step-good s e) (F .step-tells h)
+  call-leaves {w} s (interrupted x m o r h) = told-so (Good w) (good-itself s) (λ u t e. interrupt-leaves kept w u t (s .whole) x m e) (F .interrupt-tells h)
 
   calls-leave : {w v : World} → Sound w → Calls E w v → Good w v
-  calls-leave {w} s no-call = record { lent = lent-refl w; sound = s }
+  calls-leave s no-call = good-itself s
   calls-leave s (and-then u c) =
       let g = calls-leave s u in
       let h = call-leaves (g .sound) c in
@@ -122,11 +115,7 @@ module _ (E : Engine) (F : Faithful E) where
     where
       go : {n : ℕ} {u : World} {o : E .Shown} → Tells (E .of) w (step w) n u o → Told n v u o t
       go (accepts {v = v′} {t = t′} x) = record { zero-is = refl; world-is = cc; shown-is = ap (E .of) (cc) }
-      go (refuses x) = absurd (not-done (sym x ∙ e))
-
-eqb-pos : (x : ℕ) → 0 < x → eqb x 0 ≡ false
-eqb-pos zero h = absurd (not-suc-le-zero h)
-eqb-pos (suc x) h = eqb·suc-zero x
+      go (refuses x) = absurd (true≢false cc)
 
 -- ---- k, and where PC goes
 
@@ -146,7 +135,7 @@ module _ (i : Block) (w : World) where
   pc-stays j s h =
       let f : ℕ → Bool = λ x. ends (i .kind) (i .repeat) (psw-after x) in
       let le = firstOr-le (reg w CW) f in
-      rw (firstOr-before (reg w CW) f j h, eqb-pos (sub16 (reg w CW - j) 1) (omega arith))
+      rw (firstOr-before (reg w CW) f j h, ne-eqb (sub16 (reg w CW - j) 1) 0 (λ e. omega arith))
 
   pc-past : (j : ℕ) → reg w CW < 65536 → suc j ≡ elements i w → pcAfter j ≡ past i w
   unfolding elements
@@ -209,6 +198,10 @@ module _ (E : Engine) (F : Faithful E) (i : Block) (w : World) (t : Taken E i w)
         awake = s .up-again;
       }
 
+  -- a step is to be made again
+  ready-again : {p j : ℕ} {l : List (E .Shown)} {v : World} → Inv p j l v → Ready v
+  ready-again {v = v} x = record { fit = fits-so _ v (x .lent) (at-first .fit); good = sound-so v (x .sound); up = x .awake }
+
   -- the instruction is read again
   still-read : {j : ℕ} {l : List (E .Shown)} {v : World} → j ≤ reg w CW → Inv (reg w PC) j l v
       → scan instruction (source v) 0 ≡ known (Blocks (i .kind) (i .word) (i .seg) (i .repeat)) (i .size)
@@ -242,7 +235,6 @@ module _ (E : Engine) (F : Faithful E) (i : Block) (w : World) (t : Taken E i w)
       let f : List ℕ = singles i w j .state .file in
       let c : ℕ = reg w CW - j in
       let k = keep j in
-      let go : Ready v = record { fit = fits-so _ v (x .lent) (at-first .fit); good = sound-so v (x .sound); up = x .awake } in
       let covers : CoversDue K (i .kind) (i .word) (i .seg) f = (
         λ hs. covers-by (i .word) (fileOf f (segment (i .seg))) (getD f IX 0) (λ a q. inside a (source-byte j h hs (source-is i w (t .blocks) (t .whole) hs j a q))),
         λ ht. covers-by (i .word) (getD f DS1 0) (getD f IY 0) (λ a q. inside a (target-byte j h ht (target-is i w (t .blocks) (t .whole) ht j a q))),
@@ -250,8 +242,8 @@ module _ (E : Engine) (F : Faithful E) (i : Block) (w : World) (t : Taken E i w)
       let same = primitive-local K (i .kind) (i .word) (i .seg) f (v .ram) (v .rom) (singles i w j .ram) (singles i w j .rom) (t .blocks) covers (x .memory) in
       let made =
       element-turn (i .kind) (i .word) (i .seg) (i .repeat) (i .size) c (reg w PC) (sheet.counted v) f (k .long) (x .registers) (k .brk ∙ t .untraced) (t .blocks) (t .repeated)
-      (eqb-pos c (omega arith)) in
-      let is = turned v i go (still-read (omega arith) x) made in
+      (ne-eqb c 0 (λ e. omega arith)) in
+      let is = turned v i (ready-again x) (still-read (omega arith) x) made in
       let left = step-good (x .sound) is in
       let less : sub16 c 1 ≡ reg w CW - suc j = omega arith in
       let after = singles-next i w (t .blocks) j in
@@ -314,10 +306,9 @@ module _ (E : Engine) (F : Faithful E) (i : Block) (w : World) (t : Taken E i w)
   unfolding sheet.counted singles
   at-zero z n v u o g s =
       let x = across inv-begun g in
-      let go : Ready v = record { fit = fits-so _ v (x .lent) (at-first .fit); good = sound-so v (x .sound); up = x .awake } in
       let here : v .state .file ≡ placed (reg w CW) (reg w PC) (w .state .file) = rw (sub-zero (reg w CW)) at (x .registers) in
       let made = empty-turn (i .kind) (i .word) (i .seg) (i .repeat) (i .size) (reg w CW) (reg w PC) (sheet.counted v) (w .state .file) (t .whole) here (t .untraced) (t .repeated) (rw z) in
-      let is = turned v i go (still-read (omega arith) x) made in
+      let is = turned v i (ready-again x) (still-read (omega arith) x) made in
       let a = answered E F s is in (
         a .zero-is,
         ap (λ y. y .state .file) (a .world-is) ∙ made .file-is ∙ placed-pc (past i w) (w .state .file) (t .whole),

@@ -4,25 +4,18 @@ use native.Mathlib.Nat.{le-of-suc-le-suc, not-suc-le-zero}
 use mathlib.Core.Bool.{Bool, true, false}
 use mathlib.Core.Path.{_≡_, refl}
 use Rattle.sheet.specs.Width.{pick}
+use Rattle.portlog.proofs.Picked.{picked}
 use Rattle.theorems.specs.Repeat.{firstOr}
 
 pub firstOr-le : (n : ℕ) (f : ℕ → Bool) → firstOr n f ≤ n
 unfolding firstOr
 firstOr-le zero f = zero-le
-firstOr-le (suc n) f = go (f 1) (firstOr-le n (λ j. f (suc j)))
-  where
-    go : (b : Bool) {k : ℕ} → k ≤ n → pick b 1 (suc k) ≤ suc n
-    go true h = suc-le-suc zero-le
-    go false h = suc-le-suc h
+firstOr-le (suc n) f = picked (λ (k : ℕ). k ≤ suc n) (f 1) (suc-le-suc zero-le) (suc-le-suc (firstOr-le n (λ j. f (suc j))))
 
 pub firstOr-pos : (n : ℕ) (f : ℕ → Bool) → 0 < n → 0 < firstOr n f
 unfolding firstOr
 firstOr-pos zero f h = h
-firstOr-pos (suc n) f h = go (f 1) _
-  where
-    go : (b : Bool) (k : ℕ) → 0 < pick b 1 (suc k)
-    go true k = suc-le-suc zero-le
-    go false k = suc-le-suc zero-le
+firstOr-pos (suc n) f h = picked (λ (k : ℕ). 0 < k) (f 1) (suc-le-suc zero-le) (suc-le-suc zero-le)
 
 pub firstOr-before : (n : ℕ) (f : ℕ → Bool) (j : ℕ) → suc j < firstOr n f → f (suc j) ≡ false
 unfolding firstOr

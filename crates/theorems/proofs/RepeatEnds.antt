@@ -1,6 +1,6 @@
 -- In code a repeat ends under any plan of services: RAM stays a memory of bytes, and over such every step is answered.
 use Prim.Native.Nat.{ℕ, _+_, _/_, _%_, _≤_, _<_}
-use mathlib.Core.Path.{_≡_, refl, sym, subst}
+use mathlib.Core.Path.{_≡_, sym, subst}
 use mathlib.Core.Bool.{Bool, true, false}
 use mathlib.Core.List.{List}
 use native.Mathlib.Decide.{decLt, ℕ-discrete}
@@ -15,14 +15,14 @@ use Rattle.sheet.specs.World.{World}
 use Rattle.sheet.specs.Act.{Act}
 use Rattle.sheet.specs.Handler.{Event, done, kept, runBy}
 use Rattle.sheet.specs.Step.{counted, stepping, step, interrupting, interrupt}
-use Rattle.sheet.proofs.Lent.{Leaves, leaves, Kept, Sound, Good, keeps-all, good-kept}
+use Rattle.sheet.proofs.Lent.{Kept, Sound, Good, keeps-all, good-kept}
 use Rattle.sheet.proofs.StepLaws.{sound-is, begins, enters}
 use Rattle.theorems.specs.Bounds.{Bytes}
 use Rattle.theorems.specs.Repeat as statement
 use Rattle.theorems.specs.Repeat.{Block, elements, Engine, Call, stepped, interrupted, Calls, no-call, and-then, Gap, quiet, service, Own, begun, next-own, Taken}
-use Rattle.theorems.specs.RepeatEngines.{Tells, accepts, refuses}
 use Rattle.theorems.specs.RepeatCode.{code}
-use Rattle.theorems.proofs.Repeat.{Faithful, ready, call-leaves}
+use Rattle.theorems.proofs.Repeat.{Faithful, ready, told-so, good-itself, call-leaves}
+use Rattle.theorems.proofs.RepeatPrimitive.{left-of}
 use Rattle.theorems.proofs.RepeatCode.{code-faithful, code-demand3, code-answers}
 
 -- ---- every call leaves bytes
@@ -57,13 +57,9 @@ bytes-kept w =
       at-halt = λ v b q. record { good = k .at-halt v b (q .good); bytes = q .bytes };
     }
 
-left-of : {w v : World} {t : List Event} → Leaves {A = Unit {0}} (GoodBytes w) (done tt v t) → Bytes (v .ram)
-left-of (leaves q) = q .bytes
-
 tree-bytes : (p : Act Unit) (w v : World) (t : List Event) → Sound w → Bytes (w .ram) → runBy kept p w ≡ done tt v t → Bytes (v .ram)
 tree-bytes p w v t s b e =
-    let g : Good w w = record { lent = record { ram-long = refl; rom-same = refl; tape-same = refl; log-long = refl }; sound = s } in
-    left-of (rw e at (keeps-all (GoodBytes w) (bytes-kept w) p kept w (record { good = g; bytes = b })))
+    left-of (rw e at (keeps-all (GoodBytes w) (bytes-kept w) p kept w (record { good = good-itself s; bytes = b }))) .bytes
 
 counted-sound : (w : World) → Sound w → Sound (counted w)
 unfolding counted
@@ -93,17 +89,9 @@ module _ (E : Engine) (F : Faithful E) where
       let g = call-leaves E F (q .sound) c in
       record { sound = g .sound; ram = go c; rom = rw (g .lent .rom-same) (q .rom) }
     where
-      stepping-so : {v : World} {o : E .Shown} → Tells (E .of) w (step w) 0 v o → Bytes (v .ram)
-      stepping-so (accepts e) = step-bytes (q .sound) (q .ram) e
-      stepping-so (refuses e) = q .ram
-
-      calling-so : (x : ℕ) (m : Bool) {v : World} {o : E .Shown} → Tells (E .of) w (interrupt x m w) 0 v o → Bytes (v .ram)
-      calling-so x m (accepts e) = interrupt-bytes x m (q .sound) (q .ram) e
-      calling-so x m (refuses e) = q .ram
-
       go : {v : World} → Call E w v → Bytes (v .ram)
-      go (stepped o h) = stepping-so (F .step-tells h)
-      go (interrupted x m o r h) = calling-so x m (F .interrupt-tells h)
+      go (stepped o h) = told-so (λ u. Bytes (u .ram)) (q .ram) (λ u t e. step-bytes (q .sound) (q .ram) e) (F .step-tells h)
+      go (interrupted x m o r h) = told-so (λ u. Bytes (u .ram)) (q .ram) (λ u t e. interrupt-bytes x m (q .sound) (q .ram) e) (F .interrupt-tells h)
 
   calls-callable : {w v : World} → Callable w → Calls E w v → Callable v
   calls-callable q no-call = q

@@ -10,12 +10,13 @@ use lib.ListN.{replicate, getD}
 use Rattle.sheet.specs.declared.Primitive.the-variants.{Movbk}
 use Rattle.sheet.specs.declared.Repeat.the-variants.{WhileZ}
 use Rattle.sheet.specs.declared.Instr.the-variants.{Blocks}
+use Rattle.sheet.specs.Width.{wrapOf}
 use Rattle.sheet.specs.Psw.{settled}
 use Rattle.sheet.specs.Registers.{CW, PC, inPs}
 use Rattle.sheet.specs.Memory.{byteAt, readMem, writeMem, busCycles}
 use Rattle.sheet.specs.Act as act
-use Rattle.sheet.specs.World.{World, world}
-use Rattle.sheet.specs.Handler.{Event, done, runBy, run, happened, tally}
+use Rattle.sheet.specs.World.{World}
+use Rattle.sheet.specs.Handler.{Event, Outcome, done, runBy, run, happened, tally}
 use Rattle.sheet.specs.Traps.{push, pop, pushPsw, pushPsPc, jumpFar, save, trap, untrapped}
 use Rattle.sheet.specs.Interrupts.{reti, interrupts}
 use Rattle.sheet.specs.Control.{control}
@@ -27,8 +28,9 @@ use Rattle.sheet.specs.Reading.{known, scan}
 use Rattle.sheet.specs.Encoding.{prefixOf, lookUp}
 use Rattle.sheet.specs.FirstByte.{afterPrefix, prefixed, instruction}
 use Rattle.sheet.specs.Step.{fits, sound, codeAt, source, interrupting, singleStep, stepping, counted, decoded, awake, stepBy, step, interruptBy, interrupt, stepReport, interruptReport}
+use Rattle.theorems.specs.StandIns.{machine}
 use Rattle.theorems.specs.Repeat.{Block, single, singles, firstOr, elements, reg, walk, low, Kept, own-byte, source-byte, target-byte, NeverOnItself, stepped, no-call, and-then, Restores, Engine, Gap, quiet, service, begun, next-own, Taken, Demand3}
-use Rattle.theorems.specs.RepeatEngines.{accesses, accepts, definition}
+use Rattle.theorems.specs.RepeatEngines.{accesses, accepts, engine, definition}
 use Rattle.theorems.specs.RepeatCode.{StepCall, step-call, InterruptCall, interrupt-call, code}
 use Rattle.theorems.proofs.Repeat.{definition-demand3}
 use Rattle.theorems.proofs.RepeatCode.{code-demand3}
@@ -51,28 +53,25 @@ memory stack target =
     ++ (0xf3 ∷ 0x2e ∷ 0xa4 ∷ 0 ∷ 0 ∷ 0 ∷ 0 ∷ 0 ∷ 0xf9 ∷ 0xcf ∷ 0 ∷ 0 ∷ 0 ∷ 0 ∷ 0 ∷ 0 ∷ 1 ∷ 2 ∷ 3 ∷ 0 ∷ [])
     ++ target
 
-abbrev pub machine : List ℕ → ℕ → List ℕ → World
-machine file count ram = world (record { file = file; halted = false; tape = 0; log = 0; count = count }) ram [] [] []
-
 abbrev pub start : World
-start = machine (words 3 64 80 84 64 0xf202) 0 (memory (replicate 6 0) (0 ∷ 0 ∷ 0 ∷ []))
+start = machine (words 3 64 80 84 64 0xf202) false 0 (memory (replicate 6 0) (0 ∷ 0 ∷ 0 ∷ []))
 
 -- on the way: after the first step, at the handler, after its first instruction, back from it
 abbrev pub after-one : World
-after-one = machine (words 2 64 81 85 64 0xf202) 1 (memory (replicate 6 0) (1 ∷ 0 ∷ 0 ∷ []))
+after-one = machine (words 2 64 81 85 64 0xf202) false 1 (memory (replicate 6 0) (1 ∷ 0 ∷ 0 ∷ []))
 
 abbrev pushed : List ℕ
 pushed = 64 ∷ 0 ∷ 0 ∷ 0 ∷ 0x02 ∷ 0xf2 ∷ []
 
 abbrev pub in-handler : World
-in-handler = machine (words 2 58 81 85 72 0xf002) 1 (memory pushed (1 ∷ 0 ∷ 0 ∷ []))
+in-handler = machine (words 2 58 81 85 72 0xf002) false 1 (memory pushed (1 ∷ 0 ∷ 0 ∷ []))
 
 abbrev pub with-carry : World
-with-carry = machine (words 2 58 81 85 73 0xf003) 2 (memory pushed (1 ∷ 0 ∷ 0 ∷ []))
+with-carry = machine (words 2 58 81 85 73 0xf003) false 2 (memory pushed (1 ∷ 0 ∷ 0 ∷ []))
 
 -- it did change memory: what was pushed stays below the stack pointer
 abbrev pub back : World
-back = machine (words 2 64 81 85 64 0xf202) 3 (memory pushed (1 ∷ 0 ∷ 0 ∷ []))
+back = machine (words 2 64 81 85 64 0xf202) false 3 (memory pushed (1 ∷ 0 ∷ 0 ∷ []))
 
 -- whoever unfolds this unfolds what these steps need of the definition
 unfoldable pub opened : ℕ
@@ -150,35 +149,34 @@ pub record Goes (E : Engine) : Type 0 where
   pub carrying : E .Step in-handler 0 with-carry shown-carry
   pub returning : E .Step with-carry 0 back shown-return
 
--- the example is taken, and its service is one that restores
-module _ (E : Engine) (g : Goes E) where
-  pub taken : Taken E move3 start
-  taken =
-      record {
-        read = reads-move3;
-        blocks = refl;
-        repeated = refl;
-        accepted = (after-one, g .shown-first, g .stepping-first);
-        untraced = refl;
-        clean = apart;
-        whole = refl;
-        sixteen = lit< tt;
-      }
+-- the example is taken by every engine that accepts it
+pub taken : (E : Engine) (v : World) (o : E .Shown) → E .Step start 0 v o → Taken E move3 start
+taken E v o s = record {
+  read = reads-move3;
+  blocks = refl;
+  repeated = refl;
+  accepted = (v, o, s);
+  untraced = refl;
+  clean = apart;
+  whole = refl;
+  sixteen = lit< tt;
+}
 
-  pub served : Gap E Mine after-one back
-  served =
-      service
-      (record {
-        vector = 8;
-        maskable = true;
-        entry = in-handler;
-        shown = g .shown-call;
-        in-range = lit< tt;
-        taken = g .calling;
-        served = and-then (and-then no-call (stepped (g .shown-carry) (g .carrying))) (stepped (g .shown-return) (g .returning));
-        up-again = refl;
-      })
-      restores
+-- its service is one that restores
+pub served : (E : Engine) → Goes E → Gap E Mine after-one back
+served E g =
+    service
+    (record {
+      vector = 8;
+      maskable = true;
+      entry = in-handler;
+      shown = g .shown-call;
+      in-range = lit< tt;
+      taken = g .calling;
+      served = and-then (and-then no-call (stepped (g .shown-carry) (g .carrying))) (stepped (g .shown-return) (g .returning));
+      up-again = refl;
+    })
+    restores
 
 -- whatever the second own step answers, it is accepted; PC is on the first prefix again, CW is 1, and two bytes have moved
 abbrev pub Second : Engine → Type 0
@@ -192,7 +190,7 @@ moved-byte = refl
 pub second : (E : Engine) → Goes E → Demand3 E → Second E
 unfolding walk steppedOf
 second E g d n v o s =
-    let k = d move3 start (taken E g) Mine mine in
+    let k = d move3 start (taken E _ _ (g .stepping-first)) Mine mine in
     let one = next-own begun (quiet refl) (g .stepping-first) in
     let z = k .goes-on 1 n _ o after-one back v (rw three-elements (lit≤ tt)) one (served E g) s in
     let a = k .on-the-way 2 _ v (rw three-elements (lit≤ tt)) (next-own one (served E g) (subst (λ n. E .Step back n v o) z s)) in
@@ -205,17 +203,21 @@ second E g d n v o s =
 
 -- ---- in the definition
 
-pub goes : Goes definition
-goes = record {
+-- steps that do on these three machines what the definition does
+pub goes-by : (steps : World → Outcome Unit) → steps start ≡ step start → steps in-handler ≡ step in-handler → steps with-carry ≡ step with-carry → Goes (engine steps interrupt)
+goes-by steps a b c = record {
   shown-first = accesses (happened (step start));
   shown-call = accesses (happened (interrupt 8 true after-one));
   shown-carry = accesses (happened (step in-handler));
   shown-return = accesses (happened (step with-carry));
-  stepping-first = accepts first;
+  stepping-first = accepts (a ∙ first);
   calling = accepts call;
-  carrying = accepts in-service;
-  returning = accepts returns;
+  carrying = accepts (b ∙ in-service);
+  returning = accepts (c ∙ returns);
 }
+
+pub goes : Goes definition
+goes = goes-by step refl refl refl
 
 pub second-step : Second definition
 second-step = second definition goes definition-demand3

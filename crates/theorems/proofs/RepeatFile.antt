@@ -1,11 +1,13 @@
 -- The fourteen words of a state, and what one primitive makes of them.
 use Prim.Native.Nat.{ℕ, zero, suc, _+_, _%_, _<_}
-use mathlib.Core.Path.{_≡_, refl, ap, _∙_}
-use mathlib.Core.Bool.{Bool, true, false}
+use mathlib.Core.Path.{_≡_, refl, sym, ap, _∙_}
+use mathlib.Core.Bool.{Bool, true, false, false≢true}
+use mathlib.Core.Logic.{_≢_}
 use mathlib.Core.List.{List, [], _∷_}
 use native.Mathlib.Omega.{arith}
-use lib.Dec.{T}
-use lib.ListN.{length, getD, set}
+use lib.Dec.{T, lit<}
+use lib.ListN.{length, getD, set, length-set}
+use lib.Seq.{getD-set-other}
 use Rattle.sheet.specs.declared.Primitive.{Primitive}
 use Rattle.sheet.specs.declared.Primitive.the-variants.{Movbk, Cmpbk, Cmpm, Ldm, Stm, Inm, Outm}
 use Rattle.sheet.specs.Psw.{BRK, DIR, keeps, flagOf, column, settled}
@@ -101,15 +103,18 @@ keeps-segment {f} {g} k n = segment-is g f (k .ds1) (k .ps) (k .ss) (k .ds0) n
 
 -- CW and PC are no part of a primitive
 module _ (x p : ℕ) where
-  pub made-placed : (k : Primitive) (w : Bool) (y z : ℕ) (f : List ℕ) → length f ≡ 14 → made k w y z (placed x p f) ≡ placed x p (made k w y z f)
+  abbrev Passes : Primitive → Bool → (y z : ℕ) → List ℕ → Type 0
+  Passes k w y z f = made k w y z (placed x p f) ≡ placed x p (made k w y z f)
+
+  pub made-placed : (k : Primitive) (w : Bool) (y z : ℕ) (f : List ℕ) → length f ≡ 14 → Passes k w y z f
   unfolding made stepped compared loaded readReg regWord
-  made-placed Movbk w y z = fourteen (λ f. made Movbk w y z (placed x p f) ≡ placed x p (made Movbk w y z f)) (λ a b c d e f g h i j k l m n. refl)
-  made-placed Cmpbk w y z = fourteen (λ f. made Cmpbk w y z (placed x p f) ≡ placed x p (made Cmpbk w y z f)) (λ a b c d e f g h i j k l m n. refl)
-  made-placed Cmpm true y z = fourteen (λ f. made Cmpm true y z (placed x p f) ≡ placed x p (made Cmpm true y z f)) (λ a b c d e f g h i j k l m n. refl)
-  made-placed Cmpm false y z = fourteen (λ f. made Cmpm false y z (placed x p f) ≡ placed x p (made Cmpm false y z f)) (λ a b c d e f g h i j k l m n. refl)
-  made-placed Ldm true y z = fourteen (λ f. made Ldm true y z (placed x p f) ≡ placed x p (made Ldm true y z f)) (λ a b c d e f g h i j k l m n. refl)
-  made-placed Ldm false y z = fourteen (λ f. made Ldm false y z (placed x p f) ≡ placed x p (made Ldm false y z f)) (λ a b c d e f g h i j k l m n. refl)
-  made-placed Stm w y z = fourteen (λ f. made Stm w y z (placed x p f) ≡ placed x p (made Stm w y z f)) (λ a b c d e f g h i j k l m n. refl)
+  made-placed Movbk w y z = fourteen (Passes Movbk w y z) (λ a b c d e f g h i j k l m n. refl)
+  made-placed Cmpbk w y z = fourteen (Passes Cmpbk w y z) (λ a b c d e f g h i j k l m n. refl)
+  made-placed Cmpm true y z = fourteen (Passes Cmpm true y z) (λ a b c d e f g h i j k l m n. refl)
+  made-placed Cmpm false y z = fourteen (Passes Cmpm false y z) (λ a b c d e f g h i j k l m n. refl)
+  made-placed Ldm true y z = fourteen (Passes Ldm true y z) (λ a b c d e f g h i j k l m n. refl)
+  made-placed Ldm false y z = fourteen (Passes Ldm false y z) (λ a b c d e f g h i j k l m n. refl)
+  made-placed Stm w y z = fourteen (Passes Stm w y z) (λ a b c d e f g h i j k l m n. refl)
   made-placed Inm w y z = λ f e. refl
   made-placed Outm w y z = λ f e. refl
 
@@ -141,13 +146,30 @@ module _ (x p : ℕ) where
 
 -- ---- what each part of a primitive keeps
 
+-- one of the first eight registers is set, and it is not CW
+set-keeps : (n x : ℕ) → n < 8 → n ≢ CW → (f : List ℕ) → length f ≡ 14 → Keeps f (set f n x)
+set-keeps n x low other f e =
+    let same : (m : ℕ) → m ≢ n → getD (set f n x) m 0 ≡ getD f m 0 = λ m d. getD-set-other f n m x 0 d in
+    let psw : getD (set f n x) PSW 0 ≡ getD f PSW 0 = same PSW (omega arith) in
+    record {
+      long = length-set f n x ∙ e;
+      cw = same CW (λ q. other (sym q));
+      ds1 = same DS1 (omega arith);
+      ps = same PS (omega arith);
+      ss = same SS (omega arith);
+      ds0 = same DS0 (omega arith);
+      pc = same PC (omega arith);
+      brk = ap (λ v. flagOf v BRK) psw;
+      dir = ap (λ v. flagOf v DIR) psw;
+    }
+
 stepped-ix : (w : Bool) (f : List ℕ) → length f ≡ 14 → Keeps f (stepped w IX f)
 unfolding stepped
-stepped-ix w = fourteen (λ f. Keeps f (stepped w IX f)) (λ a b c d e f g h i j k l m n. record { long = refl; cw = refl; ds1 = refl; ps = refl; ss = refl; ds0 = refl; pc = refl; brk = refl; dir = refl })
+stepped-ix w f = set-keeps IX _ (lit< tt) (omega arith) f
 
 stepped-iy : (w : Bool) (f : List ℕ) → length f ≡ 14 → Keeps f (stepped w IY f)
 unfolding stepped
-stepped-iy w = fourteen (λ f. Keeps f (stepped w IY f)) (λ a b c d e f g h i j k l m n. record { long = refl; cw = refl; ds1 = refl; ps = refl; ss = refl; ds0 = refl; pc = refl; brk = refl; dir = refl })
+stepped-iy w f = set-keeps IY _ (lit< tt) (omega arith) f
 
 compared-keeps : (w : Bool) (x y : ℕ) (f : List ℕ) → length f ≡ 14 → Keeps f (compared w x y f)
 unfolding compared
@@ -155,7 +177,7 @@ compared-keeps w x y = fourteen (λ f. Keeps f (compared w x y f)) (λ a b c d e
 
 loaded-keeps : (w : Bool) (x : ℕ) (f : List ℕ) → length f ≡ 14 → Keeps f (loaded w x f)
 unfolding loaded
-loaded-keeps w x = fourteen (λ f. Keeps f (loaded w x f)) (λ a b c d e f g h i j k l m n. record { long = refl; cw = refl; ds1 = refl; ps = refl; ss = refl; ds0 = refl; pc = refl; brk = refl; dir = refl })
+loaded-keeps w x f = set-keeps AW _ (lit< tt) (omega arith) f
 
 pub made-keeps : (k : Primitive) (w : Bool) (x y : ℕ) (f : List ℕ) → length f ≡ 14 → Keeps f (made k w x y f)
 unfolding made
@@ -181,29 +203,27 @@ made-keeps Outm w x y f e = keeps-all e
 moved-dir : (w : Bool) (x y : ℕ) (n o : ℕ) → steppedOf w (flagOf (settled keeps (column (difference w x y false .column)) n) DIR) o ≡ steppedOf w (flagOf n DIR) o
 moved-dir w x y n o = ap (λ d. steppedOf w d o) (flag-settled keeps (column (difference w x y false .column)) n DIR)
 
-pub no-false : _≡_ {A = Bool} false true → ⊥
-no-false e = let z : _≡_ {A = ℕ} 0 1 = cc in omega arith
+abbrev pub Moves : ℕ → Primitive → Bool → (x y : ℕ) → List ℕ → Type 0
+Moves n k w x y f = getD (made k w x y f) n 0 ≡ steppedOf w (flagOf (getD f PSW 0) DIR) (getD f n 0)
 
-pub made-ix : (k : Primitive) (w : Bool) (x y : ℕ) → T (hasSource k) → ofMemory k ≡ true → (f : List ℕ) → length f ≡ 14
-    → getD (made k w x y f) IX 0 ≡ steppedOf w (flagOf (getD f PSW 0) DIR) (getD f IX 0)
+pub made-ix : (k : Primitive) (w : Bool) (x y : ℕ) → T (hasSource k) → ofMemory k ≡ true → (f : List ℕ) → length f ≡ 14 → Moves IX k w x y f
 unfolding made stepped compared loaded
-made-ix Movbk w x y t m = fourteen (λ f. getD (made Movbk w x y f) IX 0 ≡ steppedOf w (flagOf (getD f PSW 0) DIR) (getD f IX 0)) (λ a b c d e f g h i j k l m n. refl)
-made-ix Cmpbk w x y t m = fourteen (λ f. getD (made Cmpbk w x y f) IX 0 ≡ steppedOf w (flagOf (getD f PSW 0) DIR) (getD f IX 0)) (λ a b c d e f g h i j k l m n. moved-dir w x y n g)
+made-ix Movbk w x y t m = fourteen (Moves IX Movbk w x y) (λ a b c d e f g h i j k l m n. refl)
+made-ix Cmpbk w x y t m = fourteen (Moves IX Cmpbk w x y) (λ a b c d e f g h i j k l m n. moved-dir w x y n g)
 made-ix Cmpm w x y t m = absurd t
-made-ix Ldm w x y t m = fourteen (λ f. getD (made Ldm w x y f) IX 0 ≡ steppedOf w (flagOf (getD f PSW 0) DIR) (getD f IX 0)) (λ a b c d e f g h i j k l m n. refl)
+made-ix Ldm w x y t m = fourteen (Moves IX Ldm w x y) (λ a b c d e f g h i j k l m n. refl)
 made-ix Stm w x y t m = absurd t
 made-ix Inm w x y t m = absurd t
-made-ix Outm w x y t m = absurd (no-false m)
+made-ix Outm w x y t m = absurd (false≢true m)
 
-pub made-iy : (k : Primitive) (w : Bool) (x y : ℕ) → T (hasTarget k) → ofMemory k ≡ true → (f : List ℕ) → length f ≡ 14
-    → getD (made k w x y f) IY 0 ≡ steppedOf w (flagOf (getD f PSW 0) DIR) (getD f IY 0)
+pub made-iy : (k : Primitive) (w : Bool) (x y : ℕ) → T (hasTarget k) → ofMemory k ≡ true → (f : List ℕ) → length f ≡ 14 → Moves IY k w x y f
 unfolding made stepped compared
-made-iy Movbk w x y t m = fourteen (λ f. getD (made Movbk w x y f) IY 0 ≡ steppedOf w (flagOf (getD f PSW 0) DIR) (getD f IY 0)) (λ a b c d e f g h i j k l m n. refl)
-made-iy Cmpbk w x y t m = fourteen (λ f. getD (made Cmpbk w x y f) IY 0 ≡ steppedOf w (flagOf (getD f PSW 0) DIR) (getD f IY 0)) (λ a b c d e f g h i j k l m n. moved-dir w x y n h)
-made-iy Cmpm w x y t m = fourteen (λ f. getD (made Cmpm w x y f) IY 0 ≡ steppedOf w (flagOf (getD f PSW 0) DIR) (getD f IY 0)) (λ a b c d e f g h i j k l m n. moved-dir w (readReg w (fileOf (a ∷ b ∷ c ∷ d ∷ e ∷ f ∷ g ∷ h ∷ i ∷ j ∷ k ∷ l ∷ m ∷ n ∷ [])) AW) y n h)
+made-iy Movbk w x y t m = fourteen (Moves IY Movbk w x y) (λ a b c d e f g h i j k l m n. refl)
+made-iy Cmpbk w x y t m = fourteen (Moves IY Cmpbk w x y) (λ a b c d e f g h i j k l m n. moved-dir w x y n h)
+made-iy Cmpm w x y t m = fourteen (Moves IY Cmpm w x y) (λ a b c d e f g h i j k l m n. moved-dir w (readReg w (fileOf (a ∷ b ∷ c ∷ d ∷ e ∷ f ∷ g ∷ h ∷ i ∷ j ∷ k ∷ l ∷ m ∷ n ∷ [])) AW) y n h)
 made-iy Ldm w x y t m = absurd t
-made-iy Stm w x y t m = fourteen (λ f. getD (made Stm w x y f) IY 0 ≡ steppedOf w (flagOf (getD f PSW 0) DIR) (getD f IY 0)) (λ a b c d e f g h i j k l m n. refl)
-made-iy Inm w x y t m = absurd (no-false m)
+made-iy Stm w x y t m = fourteen (Moves IY Stm w x y) (λ a b c d e f g h i j k l m n. refl)
+made-iy Inm w x y t m = absurd (false≢true m)
 made-iy Outm w x y t m = absurd t
 
 -- CW and PC as they are

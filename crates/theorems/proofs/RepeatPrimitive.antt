@@ -1,7 +1,7 @@
 -- One single primitive in closed form: it goes by the bytes of its blocks only, and writes nothing else.
 use Prim.Native.Nat.{ℕ, _+_, _-_, _<_}
 use mathlib.Core.Path.{_≡_, refl, ap}
-use mathlib.Core.Bool.{Bool, true, false}
+use mathlib.Core.Bool.{Bool, true, false, false≢true}
 use mathlib.Core.Logic.{_≢_}
 use mathlib.Core.List.{List, [], _∷_}
 use lib.Dec.{T, ltb, leb}
@@ -24,7 +24,7 @@ use Rattle.sheet.specs.Reach.{Covers, Within, Spares}
 use Rattle.sheet.proofs.Lent.{Leaves, leaves, writeMem-length}
 use Rattle.sheet.proofs.Rests.{Same, same-refused, same-done, rests, HoldsAt, spared}
 use Rattle.theorems.specs.Repeat.{ofMemory, hasSource, hasTarget, writesTarget, placed}
-use Rattle.theorems.proofs.RepeatFile.{no-false, made, stepped, compared, loaded, made-placed, placed-reg, placed-reads, placed-segment}
+use Rattle.theorems.proofs.RepeatFile.{made, stepped, compared, loaded, made-placed, placed-reg, placed-reads, placed-segment}
 
 -- the element due in each block
 abbrev pub sourceDue : Bool → ℕ → (f ram rom : List ℕ) → ℕ
@@ -77,8 +77,8 @@ primitive-is Cmpm b seg w m = refl
 primitive-is Ldm true seg w m = refl
 primitive-is Ldm false seg w m = refl
 primitive-is Stm b seg w m = refl
-primitive-is Inm b seg w m = absurd (no-false m)
-primitive-is Outm b seg w m = absurd (no-false m)
+primitive-is Inm b seg w m = absurd (false≢true m)
+primitive-is Outm b seg w m = absurd (false≢true m)
 
 -- ---- CW and PC are no part of it
 
@@ -191,7 +191,7 @@ ram-long Stm b seg f ram rom = writeMem-length b ram (getD f DS1 0) (getD f IY 0
 ram-long Inm b seg f ram rom = refl
 ram-long Outm b seg f ram rom = refl
 
-left-of : {Q : World → Type 0} {v : World} {t : List Event} → Leaves {A = Unit {0}} Q (done tt v t) → Q v
+pub left-of : {Q : World → Type 0} {v : World} {t : List Event} → Leaves {A = Unit {0}} Q (done tt v t) → Q v
 left-of (leaves q) = q
 
 ram-spared : (k : Primitive) (b : Bool) (seg : ℕ) (f ram rom : List ℕ) (a : ℕ) → ofMemory k ≡ true

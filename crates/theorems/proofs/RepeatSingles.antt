@@ -2,6 +2,7 @@
 use Prim.Native.Nat.{ℕ, zero, suc, _≤_, _<_}
 use mathlib.Core.Path.{_≡_, refl, sym, ap, _∙_}
 use mathlib.Core.Bool.{Bool, true, false}
+use mathlib.Core.List.{List}
 use native.Mathlib.Omega.{arith}
 use lib.Dec.{T}
 use lib.ListN.{length, getD}
@@ -15,7 +16,7 @@ use Rattle.sheet.specs.Handler.{done}
 use Rattle.sheet.specs.Reach.{Covers}
 use Rattle.sheet.specs.Step.{codeAt}
 use Rattle.theorems.specs.Repeat.{Block, ofMemory, hasSource, hasTarget, writesTarget, single, left, singles, reg, walk, InElement, low, high, InSource, InTarget, NeverOnItself}
-use Rattle.theorems.proofs.RepeatFile.{Keeps, keeps-all, keeps-then, keeps-segment, made-keeps, made-ix, made-iy}
+use Rattle.theorems.proofs.RepeatFile.{Keeps, keeps-all, keeps-then, keeps-segment, made-keeps, Moves, made-ix, made-iy}
 use Rattle.theorems.proofs.RepeatPrimitive.{sourceDue, targetDue, fileAfter, trace, worked, primitive-is, ram-long, byte-spared}
 
 pub covers-by : {K : ℕ → Type 0} (b : Bool) (g o : ℕ) → ((a : ℕ) → InElement g o a b → K a) → Covers K b g o
@@ -63,25 +64,20 @@ module _ (i : Block) (w : World) (m : ofMemory (i .kind) ≡ true) where
         rw (single-is v)
         (keeps-then k (made-keeps (i .kind) (i .word) (sourceDue (i .word) (i .seg) (v .state .file) (v .ram) (v .rom)) (targetDue (i .word) (v .state .file) (v .ram) (v .rom)) (v .state .file) (k .long)))
 
-    singles-ix : T (hasSource (i .kind)) → (j : ℕ) → getD (singles i w j .state .file) IX 0 ≡ walk (flagOf (pswOf (w .state)) DIR) (i .word) (reg w IX) j
+    -- an index register that every primitive moves by one element walks
+    singles-walk : (n : ℕ) → ((x y : ℕ) (f : List ℕ) → length f ≡ 14 → Moves n (i .kind) (i .word) x y f)
+        → (j : ℕ) → getD (singles i w j .state .file) n 0 ≡ walk (flagOf (pswOf (w .state)) DIR) (i .word) (getD (w .state .file) n 0) j
     unfolding singles walk fileAfter
-    singles-ix t zero = refl
-    singles-ix t (suc j) =
+    singles-walk n h zero = refl
+    singles-walk n h (suc j) =
         let k = singles-keep j in
-        let v : World = singles i w j in
-        rw (single-is v)
-        (made-ix (i .kind) (i .word) (sourceDue (i .word) (i .seg) (v .state .file) (v .ram) (v .rom)) (targetDue (i .word) (v .state .file) (v .ram) (v .rom)) t m (v .state .file) (k .long)
-        ∙ rw (k .dir, singles-ix t j))
+        rw (single-is (singles i w j)) (h _ _ (singles i w j .state .file) (k .long) ∙ rw (k .dir, singles-walk n h j))
+
+    singles-ix : T (hasSource (i .kind)) → (j : ℕ) → getD (singles i w j .state .file) IX 0 ≡ walk (flagOf (pswOf (w .state)) DIR) (i .word) (reg w IX) j
+    singles-ix t = singles-walk IX (λ x y. made-ix (i .kind) (i .word) x y t m)
 
     singles-iy : T (hasTarget (i .kind)) → (j : ℕ) → getD (singles i w j .state .file) IY 0 ≡ walk (flagOf (pswOf (w .state)) DIR) (i .word) (reg w IY) j
-    unfolding singles walk fileAfter
-    singles-iy t zero = refl
-    singles-iy t (suc j) =
-        let k = singles-keep j in
-        let v : World = singles i w j in
-        rw (single-is v)
-        (made-iy (i .kind) (i .word) (sourceDue (i .word) (i .seg) (v .state .file) (v .ram) (v .rom)) (targetDue (i .word) (v .state .file) (v .ram) (v .rom)) t m (v .state .file) (k .long)
-        ∙ rw (k .dir, singles-iy t j))
+    singles-iy t = singles-walk IY (λ x y. made-iy (i .kind) (i .word) x y t m)
 
     -- the bytes that element j touches are element j of the blocks
     pub source-is : T (hasSource (i .kind)) → (j a : ℕ) → InElement (fileOf (singles i w j .state .file) (segment (i .seg))) (getD (singles i w j .state .file) IX 0) a (i .word) → InSource i w j a

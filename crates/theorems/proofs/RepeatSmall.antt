@@ -15,42 +15,41 @@ use Rattle.sheet.specs.Psw.{settled}
 use Rattle.sheet.specs.Registers.{inDs0, readReg}
 use Rattle.sheet.specs.Memory.{byteAt, readMem, writeMem, busCycles}
 use Rattle.sheet.specs.Act as act
-use Rattle.sheet.specs.World.{World, world}
 use Rattle.sheet.specs.Handler.{runBy, run, tally}
 use Rattle.sheet.specs.Operand.{regValue}
 use Rattle.sheet.specs.Arithmetic.{resulting, difference}
 use Rattle.sheet.specs.Block.{steppedOf, stepIndex, sourceElement, targetElement, setTarget, primitive}
 use Rattle.sheet.specs.Step.{codeAt}
+use Rattle.theorems.specs.StandIns.{machine}
 use Rattle.theorems.specs.Repeat.{Block, single, singles, firstOr, elements, walk, InElement, low, high, shown}
 use Rattle.theorems.specs.RepeatCode.{code}
 
 -- AW, CW, IX, IY and PSW; the other registers are 0
-abbrev machine : (aw cw ix iy psw : ℕ) → List ℕ → World
-machine aw cw ix iy psw ram =
-    world (record { file = aw ∷ cw ∷ 0 ∷ 0 ∷ 0 ∷ 0 ∷ ix ∷ iy ∷ 0 ∷ 0 ∷ 0 ∷ 0 ∷ 0 ∷ psw ∷ []; halted = false; tape = 0; log = 0; count = 0 }) ram [] [] []
+abbrev words : (aw cw ix iy psw : ℕ) → List ℕ
+words aw cw ix iy psw = aw ∷ cw ∷ 0 ∷ 0 ∷ 0 ∷ 0 ∷ ix ∷ iy ∷ 0 ∷ 0 ∷ 0 ∷ 0 ∷ 0 ∷ psw ∷ []
 
 abbrev repeating : Primitive → Bool → Block
 repeating k b = record { kind = k; word = b; seg = inDs0; repeat = WhileNotZ; size = 2 }
 
 -- three bytes moved up by one with DIR 0: the blocks overlap, and the first byte is copied on and on
-overlap-up : singles (repeating Movbk false) (machine 0 3 0 1 0xf002 (7 ∷ 8 ∷ 9 ∷ 0 ∷ [])) 3 .ram ≡ 7 ∷ 7 ∷ 7 ∷ 7 ∷ []
+overlap-up : singles (repeating Movbk false) (machine (words 0 3 0 1 0xf002) false 0 (7 ∷ 8 ∷ 9 ∷ 0 ∷ [])) 3 .ram ≡ 7 ∷ 7 ∷ 7 ∷ 7 ∷ []
 unfolding singles single run runBy act._>>=_ primitive steppedOf stepIndex sourceElement setTarget readMem writeMem byteAt
 overlap-up = refl
 
 -- with DIR 1, from the top, they are moved as they are
-overlap-down : singles (repeating Movbk false) (machine 0 3 2 3 0xf402 (7 ∷ 8 ∷ 9 ∷ 0 ∷ [])) 3 .ram ≡ 7 ∷ 7 ∷ 8 ∷ 9 ∷ []
+overlap-down : singles (repeating Movbk false) (machine (words 0 3 2 3 0xf402) false 0 (7 ∷ 8 ∷ 9 ∷ 0 ∷ [])) 3 .ram ≡ 7 ∷ 7 ∷ 8 ∷ 9 ∷ []
 unfolding singles single run runBy act._>>=_ primitive steppedOf stepIndex sourceElement setTarget readMem writeMem byteAt
 overlap-down = refl
 
 -- two words moved from an odd address to an even one: 3 cycles each
-odd-words : shown code (repeating Movbk true) (machine 0 2 1 6 0xf002 (replicate 12 5)) 2 ≡ record { cycles = 3 } ∷ record { cycles = 3 } ∷ []
+odd-words : shown code (repeating Movbk true) (machine (words 0 2 1 6 0xf002) false 0 (replicate 12 5)) 2 ≡ record { cycles = 3 } ∷ record { cycles = 3 } ∷ []
 unfolding shown singles single run runBy act._>>=_ primitive steppedOf stepIndex sourceElement setTarget readMem writeMem byteAt tally busCycles
 odd-words = refl
 
 -- F2 AE, a search for 9 among 7 8 9 9 with CW = 4, ends at the third element; among 7 8 7 8 not before the fourth; with CW = 0
 -- there is none
 abbrev found : ℕ → List ℕ → ℕ
-found n l = elements (repeating Cmpm false) (machine 9 n 0 0 0xf002 l)
+found n l = elements (repeating Cmpm false) (machine (words 9 n 0 0 0xf002) false 0 l)
 
 searches : (found 4 (7 ∷ 8 ∷ 9 ∷ 9 ∷ []) ≡ 3) × (found 4 (7 ∷ 8 ∷ 7 ∷ 8 ∷ []) ≡ 4) × (found 0 (9 ∷ []) ≡ 0)
 unfolding elements firstOr singles single run runBy act._>>=_ primitive steppedOf stepIndex targetElement regValue readReg readMem byteAt difference resulting settled wrapOf signOf evenOf ones

@@ -1,7 +1,7 @@
 -- The trees that a step of a block instruction is made of, each with what it leaves.
 use Prim.Native.Nat.{ℕ}
 use mathlib.Core.Path.{_≡_, refl, ap}
-use mathlib.Core.Bool.{Bool, true, false, not, _&&_, _||_}
+use mathlib.Core.Bool.{Bool, true, false, not, _&&_, _||_, false≢true, Bool·not-not}
 use mathlib.Core.List.{List, [], _∷_, _++_, append-nil}
 use lib.Dec.{eqb}
 use lib.ListN.{getD, set}
@@ -12,7 +12,7 @@ use Rattle.sheet.specs.declared.Repeat.the-variants.{Once, WhileZ, WhileNotZ, W
 use Rattle.sheet.specs.declared.Instr.the-variants.{Blocks}
 use Rattle.sheet.specs.Width.{pick, add16, sub16}
 use Rattle.sheet.specs.Psw.{CY, Z, BRK, flagOf}
-use Rattle.sheet.specs.Registers.{CW, PC, PSW, File, fileOf}
+use Rattle.sheet.specs.Registers.{CW, PC, PSW, File, fileOf, written}
 use Rattle.sheet.specs.World.{World, withState, pswOf, withFile}
 use Rattle.sheet.specs.Act.{pure, _>>=_, registers, _≔_, flag}
 use Rattle.sheet.specs.Handler.{Event, reads, writes, takes, gives, asks, copies, changes, runBy, run}
@@ -21,10 +21,10 @@ use Rattle.sheet.specs.Branch.{countDown}
 use Rattle.sheet.specs.Traps.{untrapped}
 use Rattle.sheet.specs.Execute.{operation, execute}
 use Rattle.sheet.specs.Step.{singleStep, stepping}
-use Rattle.theorems.specs.Repeat.{repeats, meets}
+use Rattle.portlog.proofs.Picked.{picked}
+use Rattle.theorems.specs.Repeat.{kindOf, repeats, meets, ends}
 use Rattle.theorems.specs.RepeatEngines.{accesses}
 use Rattle.theorems.proofs.RepeatRuns.{Runs, runs-then}
-use Rattle.theorems.proofs.RepeatFile.{no-false}
 
 -- the world with other registers
 abbrev pub withWords : World → List ℕ → World
@@ -54,22 +54,10 @@ asked WhileCy = asks CY ∷ []
 asked WhileNotCy = asks CY ∷ []
 
 abbrev pub askedAfter : Primitive → Repeat → List Event
-askedAfter Movbk q = []
-askedAfter Cmpbk q = asked q
-askedAfter Cmpm q = asked q
-askedAfter Ldm q = []
-askedAfter Stm q = []
-askedAfter Inm q = []
-askedAfter Outm q = []
+askedAfter k q = pick (kindOf k .compares) (asked q) []
 
 abbrev pub on : Primitive → Repeat → ℕ → Bool
-on Movbk q x = true
-on Cmpbk q x = meets q x
-on Cmpm q x = meets q x
-on Ldm q x = true
-on Stm q x = true
-on Inm q x = true
-on Outm q x = true
+on k q x = not (ends k q x)
 
 goes-on : (q : Repeat) (w : World) → Runs Bool (goesOn q) w (meets q (pswOf (w .state))) w (asked q)
 unfolding goesOn run runBy _>>=_
@@ -82,8 +70,8 @@ goes-on WhileNotCy w = record { is = refl }
 goes-on-after : (k : Primitive) (q : Repeat) (w : World) → Runs Bool (goesOnAfter k q) w (on k q (pswOf (w .state))) w (askedAfter k q)
 unfolding goesOnAfter run runBy
 goes-on-after Movbk q w = record { is = refl }
-goes-on-after Cmpbk q w = goes-on q w
-goes-on-after Cmpm q w = goes-on q w
+goes-on-after Cmpbk q w = rw (Bool·not-not (meets q (pswOf (w .state)))) (goes-on q w)
+goes-on-after Cmpm q w = rw (Bool·not-not (meets q (pswOf (w .state)))) (goes-on q w)
 goes-on-after Ldm q w = record { is = refl }
 goes-on-after Stm q w = record { is = refl }
 goes-on-after Inm q w = record { is = refl }
@@ -111,21 +99,17 @@ count-run : (w : World)
 unfolding countDown run runBy _>>=_
 count-run w = record { is = refl }
 
-pc-run : (x : ℕ) (w : World) → Runs Unit (PC ≔ x) w tt (withWords w (set (w .state .file) PC x)) []
+set-run : (n x : ℕ) (w : World) → Runs Unit (n ≔ x) w tt (withWords w (written (w .state .file) n x)) []
 unfolding run runBy
-pc-run x w = record { is = refl }
+set-run n x w = record { is = refl }
 
 brk-run : (w : World) → Runs Bool (flag BRK) w (flagOf (pswOf (w .state)) BRK) w (asks BRK ∷ [])
 unfolding run runBy
 brk-run w = record { is = refl }
 
-false-run : (w : World) → Runs Bool (pure false) w false w []
+pub pure-run : {A : Type 0} (a : A) (w : World) → Runs A (pure a) w a w []
 unfolding run runBy
-false-run w = record { is = refl }
-
-pub done-run : (w : World) → Runs Unit (pure tt) w tt w []
-unfolding run runBy
-done-run w = record { is = refl }
+pure-run a w = record { is = refl }
 
 -- one element: the primitive, then CW and PC
 pub element-run : (k : Primitive) (b : Bool) (seg : ℕ) (q : Repeat) (start : ℕ) {w v : World} {t : List Event} → Runs Unit (primitive k b seg) w tt v t
@@ -141,7 +125,7 @@ element-run k b seg q start {v = v} p =
 -- a repeat prefix: nothing more with CW = 0, one element otherwise
 pub block-repeated : (k : Primitive) (b : Bool) (seg : ℕ) (q : Repeat) (start : ℕ) → repeats q ≡ true → block k b seg q start ≡ repeated k b seg q start
 unfolding block
-block-repeated k b seg Once start e = absurd (no-false e)
+block-repeated k b seg Once start e = absurd (false≢true e)
 block-repeated k b seg WhileZ start e = refl
 block-repeated k b seg WhileNotZ start e = refl
 block-repeated k b seg WhileCy start e = refl
@@ -169,9 +153,9 @@ stepping-run k b seg q n {w} {v} e h =
     (rw e
     (runs-then (λ trapped. singleStep (false && not trapped))
     (runs-then (λ r. PC ≔ add16 (r PC) n >>= λ _. operation (Blocks k b seg q) (r PC)) (registers-run w)
-    (runs-then (λ _. operation (Blocks k b seg q) start) (pc-run (add16 start n) w)
-    (runs-then (λ _. pure false) h (false-run v))))
-    (done-run v)))
+    (runs-then (λ _. operation (Blocks k b seg q) start) (set-run PC (add16 start n) w)
+    (runs-then (λ _. pure false) h (pure-run false v))))
+    (pure-run tt v)))
 
 pub around-accesses : (t : List Event) → accesses (around t) ≡ accesses t
 unfolding accesses
@@ -187,13 +171,7 @@ asked-flag WhileNotCy = refl
 
 asked-nothing : (k : Primitive) (q : Repeat) → accesses (askedAfter k q) ≡ []
 unfolding accesses
-asked-nothing Movbk q = refl
-asked-nothing Cmpbk q = asked-flag q
-asked-nothing Cmpm q = asked-flag q
-asked-nothing Ldm q = refl
-asked-nothing Stm q = refl
-asked-nothing Inm q = refl
-asked-nothing Outm q = refl
+asked-nothing k q = picked (λ (t : List Event). accesses t ≡ []) (kindOf k .compares) (asked-flag q) refl
 
 pub asked-accesses : (k : Primitive) (q : Repeat) (t : List Event) → accesses (t ++ ([] ++ ([] ++ (askedAfter k q ++ [])))) ≡ accesses t
 asked-accesses k q t = rw (append-nil (askedAfter k q), accesses-then t (askedAfter k q), asked-nothing k q, append-nil (accesses t))

@@ -1,12 +1,11 @@
 -- One step of a block instruction whose BRK is clear.
 use Prim.Native.Nat.{ℕ}
 use mathlib.Core.Path.{_≡_, refl, ap, _∙_}
-use mathlib.Core.Bool.{Bool, true, false, not, _||_}
+use mathlib.Core.Bool.{Bool, true, false, _||_, Bool·not-not}
 use mathlib.Core.List.{List, [], _++_}
 use lib.Dec.{eqb}
 use lib.ListN.{length, getD, set}
 use Rattle.sheet.specs.declared.Primitive.{Primitive}
-use Rattle.sheet.specs.declared.Primitive.the-variants.{Movbk, Cmpbk, Cmpm, Ldm, Stm, Inm, Outm}
 use Rattle.sheet.specs.declared.Repeat.{Repeat}
 use Rattle.sheet.specs.declared.Repeat.the-variants.{Once}
 use Rattle.sheet.specs.declared.Instr.the-variants.{Blocks}
@@ -23,7 +22,7 @@ use Rattle.theorems.specs.RepeatEngines.{accesses}
 use Rattle.theorems.proofs.RepeatFile.{fourteen, placed-reads, made-keeps}
 use Rattle.theorems.proofs.RepeatPrimitive.{sourceDue, targetDue, fileAfter, ramAfter, trace, worked, primitive-is, file-placed, ram-placed, trace-placed}
 use Rattle.theorems.proofs.RepeatRuns.{Runs}
-use Rattle.theorems.proofs.RepeatTree.{withWords, askedAfter, on, counted, around, moved, done-run, element-run, block-repeated, repeated-run, stepping-run, around-accesses, asked-accesses}
+use Rattle.theorems.proofs.RepeatTree.{withWords, askedAfter, counted, around, moved, pure-run, element-run, block-repeated, repeated-run, stepping-run, around-accesses, asked-accesses}
 
 -- ---- registers with CW and PC set
 
@@ -32,15 +31,6 @@ placed-moved c p x = fourteen (λ f. set (placed c p f) PC x ≡ placed c x f) (
 
 placed-counted : (c d p : ℕ) (f : List ℕ) → length f ≡ 14 → set (placed c p f) CW d ≡ placed d p f
 placed-counted c d p = fourteen (λ f. set (placed c p f) CW d ≡ placed d p f) (λ a b y e f g h i j k l m n o. refl)
-
-off : (k : Primitive) (q : Repeat) (x : ℕ) → not (on k q x) ≡ ends k q x
-off Movbk q x = refl
-off Cmpbk q x = refl
-off Cmpm q x = refl
-off Ldm q x = refl
-off Stm q x = refl
-off Inm q x = refl
-off Outm q x = refl
 
 -- the repeat is over: the comparison ended it, or CW is now 0
 abbrev pub over : Primitive → Repeat → ℕ → ℕ → Bool
@@ -51,7 +41,7 @@ counted-placed : (k : Primitive) (q : Repeat) (c x p : ℕ) (f : List ℕ) → l
 unfolding counted
 counted-placed k q c x p f e =
     let d : ℕ = sub16 c 1 in
-    rw (placed-reads c x f e .cw, placed-counted c d x f e, placed-reads d x f e .psw, off k q (getD f PSW 0)) (go (over k q c (getD f PSW 0)))
+    rw (placed-reads c x f e .cw, placed-counted c d x f e, placed-reads d x f e .psw, Bool·not-not (ends k q (getD f PSW 0))) (go (over k q c (getD f PSW 0)))
   where
     go : (t : Bool) → pick t (placed (sub16 c 1) x f) (set (placed (sub16 c 1) x f) PC p) ≡ placed (sub16 c 1) (pick t x p) f
     go true = refl
@@ -80,6 +70,28 @@ module _ (k : Primitive) (b : Bool) (seg : ℕ) (q : Repeat) (n c p : ℕ) (w : 
   start-is : getD (w .state .file) PC 0 ≡ p
   start-is = rw here (placed-reads c p f e .pc)
 
+  -- the step, by what the instruction itself does once PC is past it
+  turned-by : {v : World} {t : List Event} {file ram : List ℕ} {events : List Event} → Runs Unit (block k b seg q p) (withWords w (placed c (add16 p n) f)) tt v t
+      → v .state .file ≡ file → v .ram ≡ ram → v .rom ≡ w .rom → v .state .halted ≡ w .state .halted → accesses t ≡ accesses events → Turned k b seg q n w file ram events
+  turned-by {v} {t} h words bytes rom up shown =
+      let ran : Runs Unit (block k b seg q (getD (w .state .file) PC 0)) (moved n w) tt v t = rw (moved-is, start-is) h in
+      record {
+        v = v;
+        t = around t;
+        ran = stepping-run k b seg q n untraced ran;
+        file-is = words;
+        ram-is = bytes;
+        rom-is = rom;
+        halted-is = up;
+        shows = around-accesses t ∙ shown;
+      }
+
+  -- with a repeat prefix: nothing where CW is 0, and else an element
+  repeats-by : {v : World} {t : List Event} → repeats q ≡ true
+      → Runs Unit (pick (eqb c 0) (pure tt) (element k b seg q p)) (withWords w (placed c (add16 p n) f)) tt v t
+      → Runs Unit (block k b seg q p) (withWords w (placed c (add16 p n) f)) tt v ([] ++ t)
+  repeats-by r h = rw (block-repeated k b seg q p r) (repeated-run k b seg q p (rw (placed-reads c (add16 p n) f e .cw) h))
+
   primitive-run : ofMemory k ≡ true
       → Runs Unit (primitive k b seg) (withWords w (placed c (add16 p n) f)) tt (worked k b seg (withWords w (placed c (add16 p n) f)))
       (trace k b seg (placed c (add16 p n) f) (w .ram) (w .rom))
@@ -96,40 +108,19 @@ module _ (k : Primitive) (b : Bool) (seg : ℕ) (q : Repeat) (n c p : ℕ) (w : 
       let u : World = withWords w (placed c x f) in
       let y : World = withWords (worked k b seg u) (counted k q p (fileAfter k b seg (placed c x f) (w .ram) (w .rom))) in
       let t : List Event = trace k b seg (placed c x f) (w .ram) (w .rom) ++ ([] ++ ([] ++ (askedAfter k q ++ []))) in
-      let one : Runs Unit (pick (eqb (getD (u .state .file) CW 0) 0) (pure tt) (element k b seg q p)) u tt y t =
-      rw (placed-reads c x f e .cw, z) (element-run k b seg q p (primitive-run m)) in
-      let two = repeated-run k b seg q p one in
-      let three : Runs Unit (block k b seg q (getD (w .state .file) PC 0)) (moved n w) tt y ([] ++ t) = rw (moved-is, start-is, block-repeated k b seg q p r) two in
+      let one : Runs Unit (pick (eqb c 0) (pure tt) (element k b seg q p)) u tt y t = rw z (element-run k b seg q p (primitive-run m)) in
       let long = made-keeps k b (sourceDue b seg f (w .ram) (w .rom)) (targetDue b f (w .ram) (w .rom)) f e .long in
-      record {
-        v = y;
-        t = around ([] ++ t);
-        ran = stepping-run k b seg q n untraced three;
-        file-is = rw (file-placed c x k b seg f (w .ram) (w .rom) e) (counted-placed k q c x p (fileAfter k b seg f (w .ram) (w .rom)) (unfold fileAfter in long));
-        ram-is = ram-placed c x b seg f (w .ram) (w .rom) e k;
-        rom-is = refl;
-        halted-is = refl;
-        shows = around-accesses t ∙ asked-accesses k q (trace k b seg (placed c x f) (w .ram) (w .rom)) ∙ ap accesses (trace-placed c x b seg f (w .ram) (w .rom) e k);
-      }
+      turned-by (repeats-by r one)
+      (rw (file-placed c x k b seg f (w .ram) (w .rom) e) (counted-placed k q c x p (fileAfter k b seg f (w .ram) (w .rom)) (unfold fileAfter in long)))
+      (ram-placed c x b seg f (w .ram) (w .rom) e k) refl refl
+      (asked-accesses k q (trace k b seg (placed c x f) (w .ram) (w .rom)) ∙ ap accesses (trace-placed c x b seg f (w .ram) (w .rom) e k))
 
   -- CW = 0: PC alone moves
   pub empty-turn : repeats q ≡ true → eqb c 0 ≡ true → Turned k b seg q n w (placed c (add16 p n) f) (w .ram) []
   empty-turn r z =
       let u : World = withWords w (placed c (add16 p n) f) in
-      let one : Runs Unit (pick (eqb (getD (u .state .file) CW 0) 0) (pure tt) (element k b seg q p)) u tt u [] =
-      rw (placed-reads c (add16 p n) f e .cw, z) (done-run u) in
-      let three : Runs Unit (block k b seg q (getD (w .state .file) PC 0)) (moved n w) tt u ([] ++ []) =
-      rw (moved-is, start-is, block-repeated k b seg q p r) (repeated-run k b seg q p one) in
-      record {
-        v = u;
-        t = around ([] ++ []);
-        ran = stepping-run k b seg q n untraced three;
-        file-is = refl;
-        ram-is = refl;
-        rom-is = refl;
-        halted-is = refl;
-        shows = around-accesses [];
-      }
+      let one : Runs Unit (pick (eqb c 0) (pure tt) (element k b seg q p)) u tt u [] = rw z (pure-run tt u) in
+      turned-by (repeats-by r one) refl refl refl refl refl
 
   -- no repeat prefix: the primitive, and PC past it
   pub single-turn : ofMemory k ≡ true → q ≡ Once
@@ -137,16 +128,7 @@ module _ (k : Primitive) (b : Bool) (seg : ℕ) (q : Repeat) (n c p : ℕ) (w : 
   unfolding block
   single-turn m o =
       let x : ℕ = add16 p n in
-      let y : World = worked k b seg (withWords w (placed c x f)) in
-      let t : List Event = trace k b seg (placed c x f) (w .ram) (w .rom) in
-      let three : Runs Unit (block k b seg q (getD (w .state .file) PC 0)) (moved n w) tt y t = rw (moved-is, o) (primitive-run m) in
-      record {
-        v = y;
-        t = around t;
-        ran = stepping-run k b seg q n untraced three;
-        file-is = file-placed c x k b seg f (w .ram) (w .rom) e;
-        ram-is = ram-placed c x b seg f (w .ram) (w .rom) e k;
-        rom-is = refl;
-        halted-is = refl;
-        shows = around-accesses t ∙ ap accesses (trace-placed c x b seg f (w .ram) (w .rom) e k);
-      }
+      let u : World = withWords w (placed c x f) in
+      let one : Runs Unit (block k b seg q p) u tt (worked k b seg u) (trace k b seg (placed c x f) (w .ram) (w .rom)) = rw o (primitive-run m) in
+      turned-by one (file-placed c x k b seg f (w .ram) (w .rom) e) (ram-placed c x b seg f (w .ram) (w .rom) e k) refl refl
+      (ap accesses (trace-placed c x b seg f (w .ram) (w .rom) e k))

@@ -3,9 +3,8 @@
 -- definition, spoilt; the claim is refuted on the example's move of three bytes.
 use Prim.Native.Nat.{ℕ, zero, suc, _+_}
 use mathlib.Core.Path.{_≡_, refl, sym, ap, _∙_}
-use mathlib.Core.Bool.{true}
 use mathlib.Core.Logic.{_≢_}
-use mathlib.Core.List.{List, []}
+use mathlib.Core.List.{List, [], _∷_}
 use native.Mathlib.Omega.{arith}
 use lib.Dec.{eqb, lit≤, lit<}
 use lib.ListN.{getD, set}
@@ -13,28 +12,21 @@ use Rattle.sheet.specs.Width.{pick}
 use Rattle.sheet.specs.Registers.{CW, PC}
 use Rattle.sheet.specs.Memory.{byteAt}
 use Rattle.sheet.specs.World.{World, world, withState, withFile}
-use Rattle.sheet.specs.Handler.{Event, Outcome, refused, done, happened}
+use Rattle.sheet.specs.Handler.{Event, Outcome, refused, done}
 use Rattle.sheet.specs.Block.{steppedOf}
 use Rattle.sheet.specs.Step.{step, interrupt}
-use Rattle.theorems.specs.Repeat.{single, singles, reg, walk, low, target-byte, placed, quiet, begun, next-own, Taken, Demand3}
+use Rattle.theorems.specs.Repeat.{single, singles, reg, walk, low, target-byte, placed, quiet, begun, next-own, After, Demand3}
 use Rattle.theorems.specs.RepeatEngines.{accesses, accepts, engine}
-use Rattle.theorems.proofs.RepeatExample.{move3, start, after-one, in-handler, with-carry, back, opened, first, call, in-service, returns, three-elements, Mine, mine, apart, reads-move3, Goes, second}
+use Rattle.theorems.proofs.RepeatExample.{move3, start, back, opened, three-elements, Mine, mine, Goes, taken, second, goes-by}
 use Rattle.theorems.proofs.RepeatFile.{placed-reads}
 use Rattle.theorems.proofs.RepeatSingles.{singles-keep}
 
--- the example is taken by every engine that accepts it
-takes : (wrong : World → Outcome Unit) (v : World) (t : List Event) → wrong start ≡ done tt v t → Taken (engine wrong interrupt) move3 start
-takes wrong v t e =
-    record {
-      read = reads-move3;
-      blocks = refl;
-      repeated = refl;
-      accepted = (v, accesses t, accepts e);
-      untraced = refl;
-      clean = apart;
-      whole = refl;
-      sixteen = lit< tt;
-    }
+-- what demand 3 says of the first step
+after-first : (wrong : World → Outcome Unit) (v : World) (t : List Event) → wrong start ≡ done tt v t → Demand3 (engine wrong interrupt)
+    → After (engine wrong interrupt) move3 start Mine 64 1 (accesses t ∷ []) v
+after-first wrong v t e d =
+    let k = d move3 start (taken (engine wrong interrupt) v (accesses t) (accepts e)) Mine mine in
+    k .on-the-way 1 _ v (rw three-elements (lit≤ tt)) (next-own begun (quiet refl) (accepts e))
 
 -- PC is on the first byte after steps 1 and 2
 on-first : (c p j : ℕ) → reg (withState start (withFile (start .state) (placed c p (singles move3 start j .state .file)))) PC ≡ p
@@ -42,10 +34,7 @@ on-first c p j = placed-reads c p (singles move3 start j .state .file) (singles-
 
 -- an engine whose first step leaves PC off the first byte has no demand 3
 refuted : (wrong : World → Outcome Unit) (v : World) (t : List Event) → wrong start ≡ done tt v t → reg v PC ≢ 64 → Demand3 (engine wrong interrupt) → ⊥
-refuted wrong v t e off d =
-    let k = d move3 start (takes wrong v t e) Mine mine in
-    let a = k .on-the-way 1 _ v (rw three-elements (lit≤ tt)) (next-own begun (quiet refl) (accepts e)) in
-    off (ap (λ f. getD f PC 0) (a .registers) ∙ on-first 2 64 1)
+refuted wrong v t e off d = off (ap (λ f. getD f PC 0) (after-first wrong v t e d .registers) ∙ on-first 2 64 1)
 
 -- it goes on at once while PC stays where it was
 hurry : ℕ → ℕ → Outcome Unit → Outcome Unit
@@ -91,9 +80,7 @@ last-byte = refl
 early : (v : World) (t : List Event) → idles start ≡ done tt v t → byteAt (v .ram) (v .rom) 86 ≡ 3 → Demand3 (engine idles interrupt) → ⊥
 unfolding walk steppedOf
 early v t e h d =
-    let k = d move3 start (takes idles v t e) Mine mine in
-    let a = k .on-the-way 1 _ v (rw three-elements (lit≤ tt)) (next-own begun (quiet refl) (accepts e)) in
-    let off : _≡_ {A = ℕ} 3 0 = sym h ∙ a .kept 86 (target-byte 2 (lit< tt) tt (low refl)) ∙ last-byte in
+    let off : _≡_ {A = ℕ} 3 0 = sym h ∙ after-first idles v t e d .kept 86 (target-byte 2 (lit< tt) tt (low refl)) ∙ last-byte in
     omega arith
 
 pub not-idles : Demand3 (engine idles interrupt) → ⊥
@@ -105,33 +92,13 @@ not-idles = early _ _ refl refl
 pub loses-its-place : World → Outcome Unit
 loses-its-place w = pick (eqb (w .state .count) 3) (done tt (withState w (withFile (w .state) (placed 0 67 (w .state .file)))) []) (step w)
 
-lost-first : loses-its-place start ≡ done tt after-one (happened (step start))
-unfolding loses-its-place
-lost-first = first
-
-lost-service : loses-its-place in-handler ≡ done tt with-carry (happened (step in-handler))
-unfolding loses-its-place
-lost-service = in-service
-
-lost-return : loses-its-place with-carry ≡ done tt back (happened (step with-carry))
-unfolding loses-its-place
-lost-return = returns
-
 lost-second : loses-its-place back ≡ done tt (withState back (withFile (back .state) (placed 0 67 (back .state .file)))) []
 unfolding loses-its-place
 lost-second = refl
 
 lost-goes : Goes (engine loses-its-place interrupt)
-lost-goes = record {
-  shown-first = accesses (happened (step start));
-  shown-call = accesses (happened (interrupt 8 true after-one));
-  shown-carry = accesses (happened (step in-handler));
-  shown-return = accesses (happened (step with-carry));
-  stepping-first = accepts lost-first;
-  calling = accepts call;
-  carrying = accepts lost-service;
-  returning = accepts lost-return;
-}
+unfolding loses-its-place
+lost-goes = goes-by loses-its-place refl refl refl
 
 pub not-loses-its-place : Demand3 (engine loses-its-place interrupt) → ⊥
 not-loses-its-place d =

@@ -12,7 +12,7 @@ use Rattle.sheet.specs.Handler.{Event, Outcome, refused, done, kept, _⊕_, tal
 use Rattle.sheet.specs.Step.{fits, sound, step}
 use Rattle.sheet.specs.Run.{Ran, ran, more, onward, stepsBy, runsBy, runs, runReported, ranReport}
 use Rattle.theorems.specs.Runs.{Walk, none, step-then, RunOf, unfit, unsound, spent, stopped, after}
-use Rattle.engine.proofs.RunLaws.{tally-both, sound-so, fits-so}
+use Rattle.engine.proofs.RunLaws.{tally-both, sound-so, fits-so, runs-on}
 use Rattle.sheet.proofs.StepLaws.{step-leaves}
 
 -- ---- a run is its single steps
@@ -75,10 +75,6 @@ steps-then (suc k) j w v t (step-then {u = u} {s = s} {t = r} e g) =
 none-after : (k n : ℕ) (v : World) (t : List Event) → after k t (ran n v 0 []) ≡ ran n v k t
 none-after k n v t = rw (add-zero k, append-nil t)
 
-past-checks : (budget : ℕ) (w : World) → fits w ≡ true → sound w ≡ true → runs budget w ≡ stepsBy (λ i. kept) budget w
-unfolding runs runsBy
-past-checks budget w f s = rw (f, s)
-
 refused-at-once : (j n : ℕ) (v : World) (s : List Event) → step v ≡ refused n s → stepsBy (λ i. kept) (suc j) v ≡ ran n v 0 []
 unfolding stepsBy step
 refused-at-once j n v s e = rw e
@@ -96,8 +92,8 @@ pub run-only : (budget : ℕ) (w : World) (r : Ran) → RunOf budget w r → run
 unfolding runs runsBy
 run-only budget w (ran n v k t) (unfit f) = rw f
 run-only budget w (ran n v k t) (unsound f s) = rw (f, s)
-run-only budget w (ran n v k t) (spent f s g) = past-checks budget w f s ∙ spent-is budget w v t g
-run-only budget w (ran n v k t) (stopped {s = x} f s h g d) = past-checks budget w f s ∙ stopped-is budget k n w v t x h g d
+run-only budget w (ran n v k t) (spent f s g) = runs-on budget w (f, s) ∙ spent-is budget w v t g
+run-only budget w (ran n v k t) (stopped {s = x} f s h g d) = runs-on budget w (f, s) ∙ stopped-is budget k n w v t x h g d
 
 -- ---- a stopped run keeps exactly what came before
 
@@ -142,8 +138,7 @@ split-good : (a b : ℕ) (w v : World) (n : ℕ) (t : List Event) → length (w 
     → runs (a + b) w ≡ after a t (runs b v)
 split-good a b w v n t l f s e =
     let g = done-steps a w f s n a v t (rw e at (run-is a w)) in
-    let (f′, s′) = steps-leave a w v t l f s g in
-    past-checks (a + b) w f s ∙ steps-then a b w v t g ∙ ap (after a t) (sym (past-checks b v f′ s′))
+    runs-on (a + b) w (f, s) ∙ steps-then a b w v t g ∙ ap (after a t) (sym (runs-on b v (steps-leave a w v t l f s g)))
 
 -- the same where the checks refuse: then there is no step, and both runs answer alike
 pub run-splits : (a b : ℕ) (w v : World) (n : ℕ) (t : List Event) → length (w .state .file) ≡ 14 → runs a w ≡ ran n v a t → runs (a + b) w ≡ after a t (runs b v)

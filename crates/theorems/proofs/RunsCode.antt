@@ -9,8 +9,8 @@ use lib.ListN.{length}
 use Rattle.sheet.specs.declared.Bus.{Bus}
 use Rattle.sheet.specs.declared.State.{State}
 use Rattle.sheet.specs.World.{World, world}
-use Rattle.sheet.specs.Handler.{Event, Outcome, refused, done, _⊕_, tally}
-use Rattle.sheet.specs.Contract.{seen, report, reportOf}
+use Rattle.sheet.specs.Handler.{Event, refused, _⊕_, tally}
+use Rattle.sheet.specs.Contract.{seen, report}
 use Rattle.sheet.specs.Step.{fits, sound, step, stepReport}
 use Rattle.sheet.specs.Run.{Ran, ran, runs, runReported, ranReport}
 use Rattle.engine.specs.Steps.{Steps}
@@ -18,9 +18,9 @@ use Rattle.engine.specs.Runs.{Runs}
 use Rattle.theorems.specs.Bounds.{Bytes}
 use Rattle.theorems.specs.Runs.{Walk, none, step-then, spent, stopped}
 use Rattle.theorems.specs.RunsCode.{Called, no-call, call-then}
-use Rattle.theorems.proofs.Calls.{step-done}
+use Rattle.theorems.proofs.Calls.{stops-at, step-done}
 use Rattle.theorems.proofs.Runs.{run-only, stopped-keeps, run-splits-report}
-use Rattle.engine.proofs.RunLaws.{tally-both}
+use Rattle.engine.proofs.RunLaws.{tally-both, as-refused}
 
 -- ---- calls of step are steps
 
@@ -43,14 +43,9 @@ walked rom tape h (suc k) s v ram ram₂ log log₂ b (call-then {u = u} {ram₁
     let top : a .cycles + c .cycles ≤ 1028 * suc k = omega arith in
     record { events = d .events ++ r .events; walk = step-then (d .is) (r .walk); sum = tally-both (d .events) (r .events) ∙ rw (d .sum, r .sum); most = top }
 
--- a number other than 0 is a refusal
-refused-there : (w v : World) (o : Outcome Unit) (n : ℕ) (b : Bus) → reportOf w (seen o) ≡ report n v b → (n ≡ 0 → ⊥) → (t : List Event) × (o ≡ refused n t)
-refused-there w v (refused m t) n b e h = let z : m ≡ n = cc in (t, rw z)
-refused-there w v (done tt u t) n b e h = absurd (h (cc))
-
 refuses : (w v : World) (n : ℕ) (b : Bus) → stepReport w ≡ report n v b → (n ≡ 0 → ⊥) → (t : List Event) × (step w ≡ refused n t)
 unfolding stepReport
-refuses w v n b = refused-there w v (step w) n b
+refuses w v n b e h = as-refused (step w) n (stops-at w v (seen (step w)) n b e h)
 
 -- ---- a run is its single calls
 

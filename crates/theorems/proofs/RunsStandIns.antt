@@ -12,11 +12,11 @@ use Rattle.sheet.specs.Handler.{refused, nothing, tally}
 use Rattle.sheet.specs.Step.{fits, sound, awake, stepBy, step}
 use Rattle.sheet.specs.Run.{runs, RunReport, runReported, ranReport}
 use Rattle.sheet.proofs.SmallTable.{small-table}
-use Rattle.theorems.specs.Bounds.{Done}
+use Rattle.engine.proofs.RunLaws.{Done}
 use Rattle.theorems.specs.Runs.{none, step-then, spent, stopped}
 use Rattle.theorems.specs.StandIns.{lendable, MeetsRun, answerOf, leftBy, stepsOf, cyclesOf, subtracting, subtracted, asleep}
 use Rattle.theorems.proofs.Calls.{step-done}
-use Rattle.theorems.proofs.CallsStandIns.{bytes-of}
+use Rattle.theorems.proofs.CallsStandIns.{bytes-of, shared}
 use Rattle.theorems.proofs.Runs.{run-only}
 
 -- ---- two runs: one step of SUB4S, and five of a halted machine
@@ -54,8 +54,7 @@ module _ (engine : ℕ → World → RunReport) (meets : MeetsRun engine) where
   -- one that does nothing
   pub not-idle : ((budget : ℕ) (w : World) → budget ≤ 65535 → lendable w ≡ true → leftBy (engine budget w) ≡ w) → ⊥
   not-idle h =
-      let z : leftBy (engine 1 subtracting) ≡ subtracted = rw at-one in
-      let y : subtracted ≡ subtracting = sym z ∙ h 1 subtracting (lit≤ tt) refl in
+      let y : subtracted ≡ subtracting = ap leftBy (sym at-one) ∙ h 1 subtracting (lit≤ tt) refl in
       let x : _≡_ {A = ℕ} 2 0 = ap (λ (w : World). getD (w .state .file) PC 0) y in
       omega arith
 
@@ -67,18 +66,8 @@ module _ (engine : ℕ → World → RunReport) (meets : MeetsRun engine) where
       omega arith
 
   pub not-fixed-steps : (k : ℕ) → ((budget : ℕ) (w : World) → budget ≤ 65535 → lendable w ≡ true → stepsOf (engine budget w) ≡ k) → ⊥
-  not-fixed-steps k h =
-      let z : stepsOf (engine 5 asleep) ≡ 0 = rw at-asleep in
-      let y : stepsOf (engine 1 subtracting) ≡ 1 = rw at-one in
-      let a = h 5 asleep (lit≤ tt) refl in
-      let b = h 1 subtracting (lit≤ tt) refl in
-      omega arith
+  not-fixed-steps k h = let z : _≡_ {A = ℕ} 0 1 = shared stepsOf at-asleep at-one (h 5 asleep (lit≤ tt) refl) (h 1 subtracting (lit≤ tt) refl) in omega arith
 
   -- one with invented cycle counts
   pub not-fixed-cycles : (c : ℕ) → ((budget : ℕ) (w : World) → budget ≤ 65535 → lendable w ≡ true → cyclesOf (engine budget w) ≡ c) → ⊥
-  not-fixed-cycles c h =
-      let z : cyclesOf (engine 5 asleep) ≡ 0 = rw at-asleep in
-      let y : cyclesOf (engine 1 subtracting) ≡ 3 = rw at-one in
-      let a = h 5 asleep (lit≤ tt) refl in
-      let b = h 1 subtracting (lit≤ tt) refl in
-      omega arith
+  not-fixed-cycles c h = let z : _≡_ {A = ℕ} 0 3 = shared cyclesOf at-asleep at-one (h 5 asleep (lit≤ tt) refl) (h 1 subtracting (lit≤ tt) refl) in omega arith

@@ -7,12 +7,12 @@ use lib.ListN.{length, getD}
 use Rattle.sheet.specs.declared.Bus.{Bus}
 use Rattle.sheet.specs.declared.Instr.{Instr}
 use Rattle.sheet.specs.Registers.{SP, BP}
-use Rattle.sheet.specs.World.{World, world}
-use Rattle.sheet.specs.Handler.{Event, Outcome, done, tally}
+use Rattle.sheet.specs.World.{World}
 use Rattle.sheet.specs.Contract.{Seen, stops, ends, report}
 use Rattle.sheet.specs.Reading.{known, scan}
 use Rattle.sheet.specs.FirstByte.{instruction}
 use Rattle.sheet.specs.Step.{fits, sound, source, stepReport}
+use Rattle.theorems.specs.StandIns.{machine}
 
 -- a lent buffer holds bytes
 abbrev pub Bytes : List ℕ → Type 0
@@ -42,12 +42,6 @@ pub data Comes (n : ℕ) (refusals : List ℕ) : Seen Unit → Type 0 where
   ends-in : {w : World} {m : Bus} → m .cycles ≤ n → Comes n refusals (ends tt w m)
   stops-by : {k : ℕ} → Among k refusals → Comes n refusals (stops k)
 
--- a call that was done: it leaves v, and its events come to b
-pub record Done (o : Outcome Unit) (v : World) (b : Bus) : Type 0 where
-  pub events : List Event
-  pub is : o ≡ done tt v events
-  pub sum : tally events ≡ b
-
 -- ---- PREPARE
 
 -- a step that is to be made and finds this instruction of n bytes
@@ -68,11 +62,7 @@ OddIn w = Odd (w .state .file)
 
 -- PREPARE 0,255 at 0:0, SP and BP 1, and this PSW
 abbrev pub preparing : ℕ → World
-preparing psw =
-    world
-    (record { file = 0 ∷ 0 ∷ 0 ∷ 0 ∷ 1 ∷ 1 ∷ 0 ∷ 0 ∷ 0 ∷ 0 ∷ 0 ∷ 0 ∷ 0 ∷ psw ∷ []; halted = false; tape = 0; log = 0; count = 0 })
-    (0xc8 ∷ 0x00 ∷ 0x00 ∷ 0xff ∷ [])
-    [] [] []
+preparing psw = machine (0 ∷ 0 ∷ 0 ∷ 0 ∷ 1 ∷ 1 ∷ 0 ∷ 0 ∷ 0 ∷ 0 ∷ 0 ∷ 0 ∷ 0 ∷ psw ∷ []) false 0 (0xc8 ∷ 0x00 ∷ 0x00 ∷ 0xff ∷ [])
 
 -- the step is accepted and makes exactly n bus cycles
 pub record Makes (w : World) (n : ℕ) : Type 0 where

@@ -1,6 +1,6 @@
 -- Demand 3: a repeated block instruction, whatever falls between its steps. Stated over any steps and interrupt calls.
 use Prim.Native.Nat.{ℕ, zero, suc, _-_, _<_}
-use mathlib.Core.Bool.{Bool, true, false, not}
+use mathlib.Core.Bool.{Bool, true, false, not, _&&_}
 use mathlib.Core.List.{List, [], _∷_, _++_}
 use mathlib.Core.Path.{_≡_}
 use lib.Dec.{T}
@@ -31,43 +31,35 @@ pub record Block : Type 0 where
   pub repeat : Repeat
   pub size : ℕ
 
+-- what a primitive works on: memory alone; a block at IX, and one at IY; whether it writes the second, or compares
+pub record Kind : Type 0 where
+  pub memory : Bool
+  pub source : Bool
+  pub target : Bool
+  pub writes : Bool
+  pub compares : Bool
+
+abbrev pub kindOf : Primitive → Kind
+kindOf Movbk = record { memory = true; source = true; target = true; writes = true; compares = false }
+kindOf Cmpbk = record { memory = true; source = true; target = true; writes = false; compares = true }
+kindOf Cmpm = record { memory = true; source = false; target = true; writes = false; compares = true }
+kindOf Ldm = record { memory = true; source = true; target = false; writes = false; compares = false }
+kindOf Stm = record { memory = true; source = false; target = true; writes = true; compares = false }
+kindOf Inm = record { memory = false; source = false; target = true; writes = true; compares = false }
+kindOf Outm = record { memory = false; source = true; target = false; writes = false; compares = false }
+
 -- move, compare, search, load, store: INM and OUTM are not meant
 abbrev pub ofMemory : Primitive → Bool
-ofMemory Movbk = true
-ofMemory Cmpbk = true
-ofMemory Cmpm = true
-ofMemory Ldm = true
-ofMemory Stm = true
-ofMemory Inm = false
-ofMemory Outm = false
+ofMemory k = kindOf k .memory
 
--- which blocks a primitive has, at IX and at IY, and whether it writes the second
 abbrev pub hasSource : Primitive → Bool
-hasSource Movbk = true
-hasSource Cmpbk = true
-hasSource Cmpm = false
-hasSource Ldm = true
-hasSource Stm = false
-hasSource Inm = false
-hasSource Outm = true
+hasSource k = kindOf k .source
 
 abbrev pub hasTarget : Primitive → Bool
-hasTarget Movbk = true
-hasTarget Cmpbk = true
-hasTarget Cmpm = true
-hasTarget Ldm = false
-hasTarget Stm = true
-hasTarget Inm = true
-hasTarget Outm = false
+hasTarget k = kindOf k .target
 
 abbrev pub writesTarget : Primitive → Bool
-writesTarget Movbk = true
-writesTarget Cmpbk = false
-writesTarget Cmpm = false
-writesTarget Ldm = false
-writesTarget Stm = true
-writesTarget Inm = true
-writesTarget Outm = false
+writesTarget k = kindOf k .writes
 
 abbrev pub repeats : Repeat → Bool
 repeats Once = false
@@ -86,13 +78,7 @@ meets WhileNotCy x = not (flagOf x CY)
 
 -- it ends the repeat; the other primitives ignore flags
 abbrev pub ends : Primitive → Repeat → (psw : ℕ) → Bool
-ends Movbk q x = false
-ends Cmpbk q x = not (meets q x)
-ends Cmpm q x = not (meets q x)
-ends Ldm q x = false
-ends Stm q x = false
-ends Inm q x = false
-ends Outm q x = false
+ends k q x = kindOf k .compares && not (meets q x)
 
 -- ---- single primitives
 

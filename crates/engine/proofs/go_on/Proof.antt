@@ -1,10 +1,11 @@
 use native.Mathlib.Omega.{arith}
 use borrow.Author.Needs.{needs}
+use borrow.Author.Tests.{not-true, not-false}
 use Prim.Native.Nat.{_≤_, _-_}
 use mathlib.Core.Path.{_≡_}
 use lib.ListN.{length}
 use Rattle.sheet.specs.World.{world, stateOf}
-use Rattle.engine.proofs.RunLaws.{Continues, continues-none, continues-more, not-done, was-done, of-parts, runs-stop, runs-end}
+use Rattle.engine.proofs.RunLaws.{Continues, continues-none, continues-more, of-parts, runs-stop, runs-end}
 use Rattle.engine.proofs.go_on.Statement.{statement}
 use Rattle.engine.proofs.go_on.Tie as tie
 
@@ -25,7 +26,7 @@ loop-holds c = search (continues-none, needs)
 returns : tie.Need-returns Inv-loop μ-loop
 returns c =
     of-parts (c .before .before .before .before .before .before .before .before .before .before .before .before .before .places-of .ensures)
-    (runs-stop (c .before .before .before .before .before .before .before .before .before .before .before .before .loop .inv .4) (search needs) (not-done (c .before .if1 .taken)) (c .before .before .before .before .before .before .before .advance .ensures) (c .state-of .ensures))
+    (runs-stop (c .before .before .before .before .before .before .before .before .before .before .before .before .loop .inv .4) (search needs) (not-true _ (c .before .if1 .taken)) (c .before .before .before .before .before .before .before .advance .ensures) (c .state-of .ensures))
 
 add-cycles : tie.Need-add-cycles Inv-loop μ-loop
 add-cycles c =
@@ -38,7 +39,7 @@ add-cycles c =
 loop-again : tie.Need-loop-again Inv-loop μ-loop
 loop-again c =
     let l = c .before .before .before .before .before .before .before .before .before .before .before .before .before .loop .inv in
-    (l .0, search needs, search needs, search needs, continues-more (l .4) (was-done (c .before .before .if1 .left)) (c .before .before .before .before .before .before .before .before .advance .ensures))
+    (l .0, search needs, search needs, search needs, continues-more (l .4) (not-false _ (c .before .before .if1 .left)) (c .before .before .before .before .before .before .before .before .advance .ensures))
 
 returns-2 : tie.Need-returns-2 Inv-loop μ-loop
 returns-2 c = of-parts (c .before .before .before .places-of .ensures) (runs-end (c .before .before .loop .inv .4) (search needs) (search needs) (c .state-of2 .ensures))

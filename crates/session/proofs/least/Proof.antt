@@ -1,13 +1,12 @@
-use borrow.Author.Needs.{needs}
-use borrow.Author.Tests.{le-ltb, lt-ltb}
+use native.Mathlib.Omega.{arith}
 use Rattle.session.proofs.least.Statement.{statement}
 use Rattle.session.proofs.least.Tie as tie
 
 returns : tie.Need-returns
-returns c = (rw (lt-ltb _ _ (c .if1 .taken)), search needs)
+returns c = omega arith
 
 returns-2 : tie.Need-returns-2
-returns-2 c = (rw (le-ltb _ _ (c .if1 .left)), search needs)
+returns-2 c = omega arith
 
 pub least-spec : {M : Type 1} → statement M
 least-spec = tie.close (tie.spec returns returns-2)
