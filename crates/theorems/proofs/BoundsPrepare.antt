@@ -11,7 +11,7 @@ use lib.Dec.{lit≤, lit<}
 use Rattle.sheet.specs.declared.Bus.{Bus}
 use Rattle.sheet.specs.declared.Stack.the-variants.{Prepare}
 use Rattle.sheet.specs.declared.Instr.{Instr}
-use Rattle.sheet.specs.declared.Instr.the-variants.{Stacks}
+use Rattle.sheet.specs.Groups.{Stacks}
 use Rattle.sheet.specs.Width.{pick, wrapOf, sub16}
 use Rattle.sheet.specs.Psw.{Flag, BRK, Effect, flagOf, entering}
 use Rattle.sheet.specs.Registers.{SP, BP, PS, PC, PSW, File, fileOf}
@@ -22,7 +22,7 @@ use Rattle.sheet.specs.Handler.{kept, run, runBy, tally}
 use Rattle.sheet.specs.Contract.{Seen, ends, exec, report, reportOf}
 use Rattle.sheet.specs.Traps.{push, save, trap}
 use Rattle.sheet.specs.Stack.{frame, frames, prepare, stack}
-use Rattle.sheet.specs.Execute.{untrapped, operation, execute}
+use Rattle.sheet.specs.Execute.{untrapped, moving, operation, execute}
 use Rattle.sheet.specs.Reading as reading
 use Rattle.sheet.specs.Reading.{Read, known, scan, word}
 use Rattle.sheet.specs.Encoding.{prefixOf, lookUp}
@@ -142,7 +142,7 @@ unfolding exec run runBy tally
 of-pc x w o = exactly (set-high (w .state .file) PC x (lit≤ tt) o) refl
 
 of-execute : (size n : ℕ) (w : World) → OddIn w → Exactly (OddAfter size) 1020 false (exec (execute (prepareAt size) n) w)
-unfolding execute operation untrapped stack
+unfolding execute moving operation untrapped stack
 of-execute size n w o =
     past _ w (next (PC ≔ _) _ w (of-pc _ w o) (λ v q. next (prepare size 255) _ v (of-prepare size v q) (λ x p. of-pure x p)))
 
