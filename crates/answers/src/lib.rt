@@ -3,6 +3,7 @@ use sheet::Amount;
 use sheet::Arithmetic;
 use sheet::Bit;
 use sheet::Branch;
+use sheet::Compute;
 use sheet::Conditional;
 use sheet::Control;
 use sheet::Convert;
@@ -11,6 +12,7 @@ use sheet::Field;
 use sheet::Instr;
 use sheet::Interrupt;
 use sheet::Io;
+use sheet::Move;
 use sheet::Multiply;
 use sheet::Place;
 use sheet::Places;
@@ -20,7 +22,8 @@ use sheet::Shift;
 use sheet::Stack;
 use sheet::Transfer;
 ghost use mathlib.Core.Path.{_≡_};
-ghost use Rattle.sheet.specs.declared.Instr.the-variants.{Transfers, Calculates, Multiplies, Converts, Decimals, Fields, Stacks, Branches, Tests, Interrupts, Ports, Controls, Shifts, Bits, Blocks};
+ghost use Rattle.sheet.specs.declared.Instr.the-variants.{Computes, Moves, Multiplies, Interrupts, Ports, Controls, Blocks};
+ghost use Rattle.sheet.specs.Groups.{Transfers, Calculates, Converts, Decimals, Fields, Stacks, Branches, Tests, Shifts, Bits};
 ghost use Rattle.answers.specs.declared.Decoded.the-variants.{Known as KnownIs};
 
 // An instruction and how many bytes it has, or the refusal's number.
@@ -29,22 +32,34 @@ pub enum Decoded {
     Unknown { number: u8 },
 }
 
+fn computes(group: Compute, size: u16) -> Decoded
+    ensures { λ r. ⌜ r ≡ KnownIs (Computes group) size ⌝ }
+{
+    Decoded::Known {
+        instr: Instr::Computes(group),
+        size: size,
+    }
+}
+
+fn moves(group: Move, size: u16) -> Decoded
+    ensures { λ r. ⌜ r ≡ KnownIs (Moves group) size ⌝ }
+{
+    Decoded::Known {
+        instr: Instr::Moves(group),
+        size: size,
+    }
+}
+
 pub fn transfers(group: Transfer, size: u16) -> Decoded
     ensures { λ r. ⌜ r ≡ KnownIs (Transfers group) size ⌝ }
 {
-    Decoded::Known {
-        instr: Instr::Transfers(group),
-        size: size,
-    }
+    moves(Move::Transfers(group), size)
 }
 
 pub fn calculates(group: Arithmetic, size: u16) -> Decoded
     ensures { λ r. ⌜ r ≡ KnownIs (Calculates group) size ⌝ }
 {
-    Decoded::Known {
-        instr: Instr::Calculates(group),
-        size: size,
-    }
+    computes(Compute::Calculates(group), size)
 }
 
 pub fn multiplies(group: Multiply, size: u16) -> Decoded
@@ -59,55 +74,37 @@ pub fn multiplies(group: Multiply, size: u16) -> Decoded
 pub fn converts(group: Convert, size: u16) -> Decoded
     ensures { λ r. ⌜ r ≡ KnownIs (Converts group) size ⌝ }
 {
-    Decoded::Known {
-        instr: Instr::Converts(group),
-        size: size,
-    }
+    computes(Compute::Converts(group), size)
 }
 
 pub fn decimals(group: Decimal, size: u16) -> Decoded
     ensures { λ r. ⌜ r ≡ KnownIs (Decimals group) size ⌝ }
 {
-    Decoded::Known {
-        instr: Instr::Decimals(group),
-        size: size,
-    }
+    computes(Compute::Decimals(group), size)
 }
 
 pub fn fields(group: Field, size: u16) -> Decoded
     ensures { λ r. ⌜ r ≡ KnownIs (Fields group) size ⌝ }
 {
-    Decoded::Known {
-        instr: Instr::Fields(group),
-        size: size,
-    }
+    computes(Compute::Fields(group), size)
 }
 
 pub fn stacks(group: Stack, size: u16) -> Decoded
     ensures { λ r. ⌜ r ≡ KnownIs (Stacks group) size ⌝ }
 {
-    Decoded::Known {
-        instr: Instr::Stacks(group),
-        size: size,
-    }
+    moves(Move::Stacks(group), size)
 }
 
 pub fn branches(group: Branch, size: u16) -> Decoded
     ensures { λ r. ⌜ r ≡ KnownIs (Branches group) size ⌝ }
 {
-    Decoded::Known {
-        instr: Instr::Branches(group),
-        size: size,
-    }
+    moves(Move::Branches(group), size)
 }
 
 pub fn tests(group: Conditional, size: u16) -> Decoded
     ensures { λ r. ⌜ r ≡ KnownIs (Tests group) size ⌝ }
 {
-    Decoded::Known {
-        instr: Instr::Tests(group),
-        size: size,
-    }
+    moves(Move::Tests(group), size)
 }
 
 pub fn interrupts(group: Interrupt, size: u16) -> Decoded
@@ -140,29 +137,29 @@ pub fn controls(group: Control, size: u16) -> Decoded
 pub fn shifts(kind: Shift, word: bool, to: Place, places: Places, size: u16) -> Decoded
     ensures { λ r. ⌜ r ≡ KnownIs (Shifts kind word to places) size ⌝ }
 {
-    Decoded::Known {
-        instr: Instr::Shifts {
+    computes(
+        Compute::Shifts {
             kind: kind,
             word: word,
             to: to,
             places: places,
         },
-        size: size,
-    }
+        size,
+    )
 }
 
 pub fn bits(op: Bit, word: bool, to: Place, number: Amount, size: u16) -> Decoded
     ensures { λ r. ⌜ r ≡ KnownIs (Bits op word to number) size ⌝ }
 {
-    Decoded::Known {
-        instr: Instr::Bits {
+    computes(
+        Compute::Bits {
             op: op,
             word: word,
             to: to,
             number: number,
         },
-        size: size,
-    }
+        size,
+    )
 }
 
 pub fn blocks(primitive: Primitive, word: bool, seg: u8, repeat: Repeat, size: u16) -> Decoded

@@ -13,7 +13,7 @@ use Rattle.sheet.specs.declared.Arithmetic.the-variants.{Two}
 use Rattle.sheet.specs.declared.Stack.the-variants.{PushSegment}
 use Rattle.sheet.specs.declared.Prefixes.{Prefixes}
 use Rattle.sheet.specs.declared.Instr.{Instr}
-use Rattle.sheet.specs.declared.Instr.the-variants.{Calculates, Stacks}
+use Rattle.sheet.specs.Groups.{Calculates, Stacks}
 use Rattle.sheet.specs.Width.{pick}
 use Rattle.sheet.specs.Registers.{AW}
 use Rattle.sheet.specs.Reading.{Reading, got, no}

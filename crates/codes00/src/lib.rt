@@ -9,7 +9,7 @@ use sheet::Source;
 use sheet::Stack;
 ghost use mathlib.Core.Path.{_≡_};
 ghost use Prim.Native.Nat.{_%_, _≤_, _<_};
-ghost use Rattle.sheet.specs.declared.Instr.the-variants.{Calculates};
+ghost use Rattle.sheet.specs.Groups.{Calculates};
 ghost use Rattle.sheet.specs.declared.Arithmetic.the-variants.{Two};
 ghost use Rattle.sheet.specs.declared.Place.the-variants.{Register as RegisterIs};
 ghost use Rattle.sheet.specs.Registers.{AW};

@@ -12,7 +12,7 @@ use Rattle.sheet.specs.declared.Length.{Length}
 use Rattle.sheet.specs.declared.Length.the-variants as length
 use Rattle.sheet.specs.declared.Prefixes.{Prefixes}
 use Rattle.sheet.specs.declared.Instr.{Instr}
-use Rattle.sheet.specs.declared.Instr.the-variants.{Bits}
+use Rattle.sheet.specs.Groups.{Bits}
 use Rattle.sheet.specs.Reading.{got, byte}
 use Rattle.sheet.specs.Encoding.{W, modField, regField}
 use Rattle.sheet.specs.SecondByte.{bitInCl, bitGiven, fieldInRegister, fieldGiven}

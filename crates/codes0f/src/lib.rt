@@ -7,7 +7,7 @@ use sheet::Field;
 use sheet::Length;
 use sheet::Prefixes;
 ghost use Prim.Native.Nat.{_≤_, _<_};
-ghost use Rattle.sheet.specs.declared.Instr.the-variants.{Decimals, Fields};
+ghost use Rattle.sheet.specs.Groups.{Decimals, Fields};
 ghost use Rattle.sheet.specs.declared.Decimal.the-variants.{Rol4, Ror4};
 ghost use Rattle.sheet.specs.declared.Field.the-variants.{Ins, Ext};
 ghost use Rattle.sheet.specs.Reading.{got};

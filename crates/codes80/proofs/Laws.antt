@@ -11,7 +11,7 @@ use Rattle.sheet.specs.declared.Source.the-variants.{Immediate}
 use Rattle.sheet.specs.declared.Operation.{Operation}
 use Rattle.sheet.specs.declared.Arithmetic.the-variants.{Two}
 use Rattle.sheet.specs.declared.Transfer.the-variants.{FromSegment, ToSegment}
-use Rattle.sheet.specs.declared.Instr.the-variants.{Transfers, Calculates}
+use Rattle.sheet.specs.Groups.{Transfers, Calculates}
 use Rattle.sheet.specs.Registers.{inPs}
 use Rattle.sheet.specs.Reading.{byte, word, signedByte}
 use Rattle.sheet.specs.Encoding.{W, regField}

@@ -8,7 +8,7 @@ use sheet::Source;
 use sheet::Stack;
 use sheet::Transfer;
 ghost use Prim.Native.Nat.{ℕ, _≤_, _<_};
-ghost use Rattle.sheet.specs.declared.Instr.the-variants.{Transfers, Stacks};
+ghost use Rattle.sheet.specs.Groups.{Transfers, Stacks};
 ghost use Rattle.sheet.specs.declared.Transfer.the-variants.{Ldea};
 ghost use Rattle.sheet.specs.declared.Stack.the-variants.{Pop};
 ghost use Rattle.sheet.specs.Step.{codeByte};

@@ -11,7 +11,7 @@ use sheet::Source;
 use sheet::Stack;
 use sheet::Transfer;
 ghost use Prim.Native.Nat.{_≤_, _<_};
-ghost use Rattle.sheet.specs.declared.Instr.the-variants.{Branches, Calculates};
+ghost use Rattle.sheet.specs.Groups.{Branches, Calculates};
 ghost use Rattle.sheet.specs.declared.Branch.the-variants.{CallFar};
 ghost use Rattle.sheet.specs.declared.Arithmetic.the-variants.{Test};
 ghost use Rattle.sheet.specs.declared.Place.the-variants.{Register as RegisterIs};

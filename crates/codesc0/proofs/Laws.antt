@@ -7,7 +7,7 @@ use Rattle.sheet.specs.declared.Prefixes.{Prefixes}
 use Rattle.sheet.specs.declared.Source.the-variants.{Immediate}
 use Rattle.sheet.specs.declared.Transfer.the-variants.{Mov}
 use Rattle.sheet.specs.declared.Instr.{Instr}
-use Rattle.sheet.specs.declared.Instr.the-variants.{Transfers}
+use Rattle.sheet.specs.Groups.{Transfers}
 use Rattle.sheet.specs.Reading.{Reading, got, _>>=_, immediate}
 use Rattle.sheet.specs.SecondByte.{plainPlace}
 use Rattle.answers.specs.declared.Decoded.{Decoded}

@@ -10,7 +10,7 @@ use sheet::Source;
 use sheet::Stack;
 use sheet::Transfer;
 ghost use Prim.Native.Nat.{_≤_, _<_};
-ghost use Rattle.sheet.specs.declared.Instr.the-variants.{Transfers};
+ghost use Rattle.sheet.specs.Groups.{Transfers};
 ghost use Rattle.sheet.specs.declared.Transfer.the-variants.{LoadPointer};
 ghost use Rattle.sheet.specs.Step.{codeByte};
 ghost use Rattle.sheet.specs.FirstByte.{withMemory, withCounted, shiftGroup, bytesC0};

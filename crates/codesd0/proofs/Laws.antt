@@ -3,7 +3,7 @@ use Prim.Native.Nat.{ℕ}
 use mathlib.Core.Path.{_≡_}
 use borrow.Author.Tests.{eq-eqb, ne-eqb}
 use Rattle.sheet.specs.declared.Convert.{Convert}
-use Rattle.sheet.specs.declared.Instr.the-variants.{Converts}
+use Rattle.sheet.specs.Groups.{Converts}
 use Rattle.sheet.specs.Reading.{byte}
 use Rattle.sheet.specs.FirstByte.{afterTen}
 use Rattle.sheet.specs.Contract.{Reads}

@@ -7,7 +7,7 @@ use sheet::Prefixes;
 use sheet::Transfer;
 ghost use mathlib.Core.Path.{_≡_};
 ghost use Prim.Native.Nat.{_≤_, _<_};
-ghost use Rattle.sheet.specs.declared.Instr.the-variants.{Transfers};
+ghost use Rattle.sheet.specs.Groups.{Transfers};
 ghost use Rattle.sheet.specs.declared.Transfer.the-variants.{Trans};
 ghost use Rattle.sheet.specs.Registers.{inDs0};
 ghost use Rattle.sheet.specs.Reading.{got};

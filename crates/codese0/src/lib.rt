@@ -6,7 +6,7 @@ use sheet::Io;
 use sheet::Port;
 use sheet::Prefixes;
 ghost use Prim.Native.Nat.{_≤_, _<_};
-ghost use Rattle.sheet.specs.declared.Instr.the-variants.{Branches};
+ghost use Rattle.sheet.specs.Groups.{Branches};
 ghost use Rattle.sheet.specs.declared.Branch.the-variants.{BrFar};
 ghost use Rattle.sheet.specs.Step.{codeByte};
 ghost use Rattle.sheet.specs.FirstByte.{withFar, bytesC0};

@@ -11,7 +11,7 @@ use sheet::Stack;
 use sheet::Unary;
 ghost use mathlib.Core.Path.{_≡_};
 ghost use Prim.Native.Nat.{_≤_, _<_};
-ghost use Rattle.sheet.specs.declared.Instr.the-variants.{Branches};
+ghost use Rattle.sheet.specs.Groups.{Branches};
 ghost use Rattle.sheet.specs.declared.Branch.the-variants.{CallFarAt, BrFarAt};
 ghost use Rattle.sheet.specs.Step.{codeByte};
 ghost use Rattle.sheet.specs.FirstByte.{groupF6, groupFE, groupFF, bytesC0};

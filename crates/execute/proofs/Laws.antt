@@ -1,26 +1,12 @@
--- What each group comes to as an operation.
+-- What each kind of instruction comes to as an operation.
 use Prim.Native.Nat.{ℕ, _≤_, zero-le}
 use mathlib.Core.Bool.{Bool, false}
 use mathlib.Core.List.{List}
 use mathlib.Core.Path.{_≡_, refl}
 use native.Mathlib.Nat.{le-trans}
-use lib.Dec.{lit≤}
 use Rattle.sheet.specs.declared.Bus.{Bus}
 use Rattle.sheet.specs.declared.Progress.{Progress}
-use Rattle.sheet.specs.declared.Place.{Place}
-use Rattle.sheet.specs.declared.Places.{Places}
-use Rattle.sheet.specs.declared.Amount.{Amount}
-use Rattle.sheet.specs.declared.Transfer.{Transfer}
-use Rattle.sheet.specs.declared.Arithmetic.{Arithmetic}
 use Rattle.sheet.specs.declared.Multiply.{Multiply}
-use Rattle.sheet.specs.declared.Convert.{Convert}
-use Rattle.sheet.specs.declared.Shift.{Shift}
-use Rattle.sheet.specs.declared.Bit.{Bit}
-use Rattle.sheet.specs.declared.Decimal.{Decimal}
-use Rattle.sheet.specs.declared.Field.{Field}
-use Rattle.sheet.specs.declared.Stack.{Stack}
-use Rattle.sheet.specs.declared.Branch.{Branch}
-use Rattle.sheet.specs.declared.Conditional.{Conditional}
 use Rattle.sheet.specs.declared.Interrupt.{Interrupt}
 use Rattle.sheet.specs.declared.Primitive.{Primitive}
 use Rattle.sheet.specs.declared.Primitive.the-variants as primitives
@@ -28,24 +14,20 @@ use Rattle.sheet.specs.declared.Repeat.{Repeat}
 use Rattle.sheet.specs.declared.Io.{Io}
 use Rattle.sheet.specs.declared.Control.{Control}
 use Rattle.sheet.specs.declared.Instr.{Instr}
-use Rattle.sheet.specs.declared.Instr.the-variants.{Transfers, Calculates, Multiplies, Converts, Shifts, Bits, Decimals, Fields, Stacks, Branches, Tests, Interrupts, Blocks, Ports, Controls}
+use Rattle.sheet.specs.declared.Compute.{Compute}
+use Rattle.sheet.specs.declared.Move.{Move}
+use Rattle.sheet.specs.declared.Instr.the-variants.{Computes, Moves, Multiplies, Interrupts, Blocks, Ports, Controls}
 use Rattle.sheet.specs.World.{stateOf}
 use Rattle.sheet.specs.Act.{Act}
 use Rattle.sheet.specs.Handler.{nothing}
-use Rattle.sheet.specs.Transfer.{transfer}
-use Rattle.sheet.specs.Shift.{shift}
-use Rattle.sheet.specs.Bits.{bits}
-use Rattle.sheet.specs.Stack.{stack}
-use Rattle.sheet.specs.Branch.{branch, conditional}
 use Rattle.sheet.specs.Interrupts.{interrupts}
 use Rattle.sheet.specs.Block.{block}
 use Rattle.sheet.specs.Ports.{ports}
 use Rattle.sheet.specs.Control.{control}
 use Rattle.sheet.specs.Traps.{untrapped}
-use Rattle.sheet.specs.Execute.{calculate, multiply, convert, decimal, field, operation}
-use Rattle.sheet.specs.Contract.{OnFile, OnMemory}
+use Rattle.sheet.specs.Execute.{multiply, computing, moving, operation}
+use Rattle.sheet.specs.Contract.{OnMemory}
 use Rattle.sheet.proofs.Rules.{seq-last, seq-free, seq-stops, ends-pure}
-use Rattle.sheet.proofs.Lifted.{on-memory}
 use Rattle.ports.specs.Accesses.{OnPorts}
 use Rattle.ports.proofs.Told.{ports-end}
 use Rattle.do_block.specs.declared.Portless.{Portless}
@@ -115,45 +97,13 @@ module _ (k : Primitive) (w : Bool) (seg : ℕ) (r : Repeat) (start : ℕ) (f g 
 -- ---- which tree an instruction is
 
 module _ (i : Instr) (start : ℕ) where
-  pub of-transfers : (t : Transfer) → i ≡ Transfers t → operation i start ≡ untrapped (transfer t)
+  pub of-computes : (t : Compute) → i ≡ Computes t → operation i start ≡ untrapped (computing t)
   unfolding operation
-  of-transfers t e = rw e
+  of-computes t e = rw e
 
-  pub of-calculates : (t : Arithmetic) → i ≡ Calculates t → operation i start ≡ untrapped (calculate t)
+  pub of-moves : (t : Move) → i ≡ Moves t → operation i start ≡ untrapped (moving t)
   unfolding operation
-  of-calculates t e = rw e
-
-  pub of-converts : (t : Convert) → i ≡ Converts t → operation i start ≡ untrapped (convert t)
-  unfolding operation
-  of-converts t e = rw e
-
-  pub of-shifts : (kind : Shift) (word : Bool) (to : Place) (places : Places) → i ≡ Shifts kind word to places → operation i start ≡ untrapped (shift kind word to places)
-  unfolding operation
-  of-shifts kind word to places e = rw e
-
-  pub of-bits : (op : Bit) (word : Bool) (to : Place) (number : Amount) → i ≡ Bits op word to number → operation i start ≡ untrapped (bits op word to number)
-  unfolding operation
-  of-bits op word to number e = rw e
-
-  pub of-decimals : (t : Decimal) → i ≡ Decimals t → operation i start ≡ untrapped (decimal t)
-  unfolding operation
-  of-decimals t e = rw e
-
-  pub of-fields : (t : Field) → i ≡ Fields t → operation i start ≡ untrapped (field t)
-  unfolding operation
-  of-fields t e = rw e
-
-  pub of-stacks : (t : Stack) → i ≡ Stacks t → operation i start ≡ untrapped (stack t)
-  unfolding operation
-  of-stacks t e = rw e
-
-  pub of-branches : (t : Branch) → i ≡ Branches t → operation i start ≡ untrapped (branch t)
-  unfolding operation
-  of-branches t e = rw e
-
-  pub of-tests : (t : Conditional) → i ≡ Tests t → operation i start ≡ untrapped (conditional t)
-  unfolding operation
-  of-tests t e = rw e
+  of-moves t e = rw e
 
   pub of-blocks : (k : Primitive) (w : Bool) (seg : ℕ) (r : Repeat) → i ≡ Blocks k w seg r → operation i start ≡ untrapped (block k w seg r start)
   unfolding operation
@@ -187,9 +137,6 @@ module _ (o : Act Bool) (f g ram ram′ rom tape log : List ℕ) (q : Progress) 
   pub at-quiet : (p : Act Unit) (n : Bus) (k : ℕ) → o ≡ untrapped p → k ≤ 1020 → OnMemory Unit p f ram rom tt g ram′ n k → x ≡ handed 0 false false q n
       → Comes o f ram rom tape log q x g ram′ log
   at-quiet p n k e m h u = rw (e, u) (quiet-is p f g ram ram′ rom tape log q n k m h)
-
-  pub at-silent : (p : Act Unit) → o ≡ untrapped p → OnFile Unit p f tt g → x ≡ handed 0 false false q nothing → Comes o f ram rom tape log q x g ram log
-  at-silent p e h u = rw (e, u) (quiet-is p f g ram ram rom tape log q nothing 0 (lit≤ tt) (on-memory ram rom 0 h))
 
   pub at-told : (p : Act Bool) (b : Bool) (n : Bus) (k : ℕ) → o ≡ p → k ≤ 1020 → OnMemory Bool p f ram rom b g ram′ n k → x ≡ handed 0 b false q n
       → Comes o f ram rom tape log q x g ram′ log

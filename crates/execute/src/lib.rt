@@ -1,4 +1,4 @@
-// Every instruction's operation, by its group.
+// Every instruction's operation.
 use do_block::Portless;
 use do_port_block::Streaming;
 use ports::Ported;
@@ -149,36 +149,12 @@ pub fn perform(
     ensures { λ r. ⌜ Performs (operation i start) (now (file .entry)) (now (ram .entry)) (now (rom .entry)) (now (tape .entry)) (now (log .entry)) q (r .number) (r .trapped) (r .halts) (now (file .exit)) (now (ram .exit)) (now (log .exit)) (r .progress) (r .bus) ⌝ }
 {
     match i {
-        Instr::Transfers(t) => quiet(q, do_move::transfer(file, ram, rom, t)),
-        Instr::Calculates(t) => quiet(q, do_arith::calculate(file, ram, rom, t)),
+        Instr::Computes(t) => quiet(q, do_plain::compute(file, ram, rom, t)),
+        Instr::Moves(t) => quiet(q, do_plain::moves(file, ram, rom, t)),
         Instr::Multiplies(t) => {
             let w = do_multiply::multiply(file, ram, rom, t);
             let b = w.bus;
             told(q, w.trapped, b)
-        }
-        Instr::Converts(t) => {
-            do_convert::convert(file, t);
-            quiet(q, Bus { cycles: 0 })
-        }
-        Instr::Shifts {
-            kind,
-            word,
-            to,
-            places,
-        } => quiet(q, do_shift::shift(file, ram, rom, kind, word, to, places)),
-        Instr::Bits {
-            op,
-            word,
-            to,
-            number,
-        } => quiet(q, do_bit::bits(file, ram, rom, op, word, to, number)),
-        Instr::Decimals(t) => quiet(q, do_decimal::decimal(file, ram, rom, t)),
-        Instr::Fields(t) => quiet(q, do_field::field(file, ram, rom, t)),
-        Instr::Stacks(t) => quiet(q, do_stack::stack(file, ram, rom, t)),
-        Instr::Branches(t) => quiet(q, do_branch::branch(file, ram, rom, t)),
-        Instr::Tests(t) => {
-            do_conditional::conditional(file, t);
-            quiet(q, Bus { cycles: 0 })
         }
         Instr::Interrupts(t) => {
             let w = do_interrupt::interrupt(file, ram, rom, t);

@@ -9,7 +9,7 @@ use Rattle.sheet.specs.declared.Places.the-variants.{Counted}
 use Rattle.sheet.specs.declared.Amount.the-variants.{Given}
 use Rattle.sheet.specs.declared.Shift.{Shift}
 use Rattle.sheet.specs.declared.Prefixes.{Prefixes}
-use Rattle.sheet.specs.declared.Instr.the-variants.{Shifts}
+use Rattle.sheet.specs.Groups.{Shifts}
 use Rattle.sheet.specs.Reading.{Reading, byte}
 use Rattle.sheet.specs.Encoding.{W, regField}
 use Rattle.sheet.specs.FirstByte.{shifts, withShift, shiftGroup, withCounted}

@@ -1,8 +1,12 @@
 -- Every instruction's operation. Each hands on whether it took a trap itself.
 use Prim.Native.Nat.{ℕ}
 use mathlib.Core.Bool.{Bool, true, false}
+use Rattle.sheet.specs.declared.Compute.{Compute}
+use Rattle.sheet.specs.declared.Compute.the-variants.{Calculates, Converts, Shifts, Bits, Decimals, Fields}
+use Rattle.sheet.specs.declared.Move.{Move}
+use Rattle.sheet.specs.declared.Move.the-variants.{Transfers, Stacks, Branches, Tests}
 use Rattle.sheet.specs.declared.Instr.{Instr}
-use Rattle.sheet.specs.declared.Instr.the-variants.{Transfers, Calculates, Multiplies, Converts, Shifts, Bits, Decimals, Fields, Stacks, Branches, Tests, Interrupts, Blocks, Ports, Controls}
+use Rattle.sheet.specs.declared.Instr.the-variants.{Computes, Moves, Multiplies, Interrupts, Blocks, Ports, Controls}
 use Rattle.sheet.specs.declared.Arithmetic.{Arithmetic}
 use Rattle.sheet.specs.declared.Arithmetic.the-variants.{Two, One, Test}
 use Rattle.sheet.specs.declared.Multiply.{Multiply}
@@ -66,19 +70,25 @@ unfoldable pub field : Field → Act Unit
 field (Ins offset length) = ins offset length
 field (Ext seg offset length) = ext seg offset length
 
+unfoldable pub computing : Compute → Act Unit
+computing (Calculates i) = calculate i
+computing (Converts i) = convert i
+computing (Shifts k w to places) = shift k w to places
+computing (Bits op w to number) = bits op w to number
+computing (Decimals i) = decimal i
+computing (Fields i) = field i
+
+unfoldable pub moving : Move → Act Unit
+moving (Transfers i) = transfer i
+moving (Stacks i) = stack i
+moving (Branches i) = branch i
+moving (Tests i) = conditional i
+
 -- an instruction that began at offset `start`; PC stands on the next one
 unfoldable pub operation : Instr → ℕ → Act Bool
-operation (Transfers i) start = untrapped (transfer i)
-operation (Calculates i) start = untrapped (calculate i)
+operation (Computes i) start = untrapped (computing i)
+operation (Moves i) start = untrapped (moving i)
 operation (Multiplies i) start = multiply i
-operation (Converts i) start = untrapped (convert i)
-operation (Shifts k w to places) start = untrapped (shift k w to places)
-operation (Bits op w to number) start = untrapped (bits op w to number)
-operation (Decimals i) start = untrapped (decimal i)
-operation (Fields i) start = untrapped (field i)
-operation (Stacks i) start = untrapped (stack i)
-operation (Branches i) start = untrapped (branch i)
-operation (Tests i) start = untrapped (conditional i)
 operation (Interrupts i) start = interrupts i
 operation (Blocks k w seg q) start = untrapped (block k w seg q start)
 operation (Ports i) start = untrapped (ports i)

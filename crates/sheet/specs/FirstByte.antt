@@ -34,7 +34,8 @@ use Rattle.sheet.specs.declared.Io.the-variants.{In, Out}
 use Rattle.sheet.specs.declared.Control.the-variants.{Nop, Halt, Di, Ei, ClrCy, SetCy, NotCy, ClrDir, SetDir}
 use Rattle.sheet.specs.declared.Prefixes.{Prefixes}
 use Rattle.sheet.specs.declared.Instr.{Instr}
-use Rattle.sheet.specs.declared.Instr.the-variants.{Transfers, Calculates, Multiplies, Converts, Shifts, Stacks, Branches, Tests, Interrupts, Blocks, Ports, Controls}
+use Rattle.sheet.specs.declared.Instr.the-variants.{Multiplies, Interrupts, Blocks, Ports, Controls}
+use Rattle.sheet.specs.Groups.{Transfers, Calculates, Converts, Shifts, Stacks, Branches, Tests}
 use Rattle.sheet.specs.Width.{pick}
 use Rattle.sheet.specs.Registers.{AW, inDs1, inPs, inSs, inDs0}
 use Rattle.sheet.specs.Reading.{Reading, got, no, _>>=_, _>>_, byte, word, immediate, signedByte, allow}

@@ -7,6 +7,7 @@ pub mod Act
 pub mod World
 pub mod Handler
 pub mod Contract
+pub mod Groups
 pub mod Reading
 pub mod Operand
 pub mod Traps

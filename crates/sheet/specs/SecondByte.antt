@@ -13,7 +13,7 @@ use Rattle.sheet.specs.declared.Decimal.the-variants.{Add4s, Sub4s, Cmp4
 use Rattle.sheet.specs.declared.Field.the-variants.{Ins, Ext}
 use Rattle.sheet.specs.declared.Prefixes.{Prefixes}
 use Rattle.sheet.specs.declared.Instr.{Instr}
-use Rattle.sheet.specs.declared.Instr.the-variants.{Bits, Decimals, Fields}
+use Rattle.sheet.specs.Groups.{Bits, Decimals, Fields}
 use Rattle.sheet.specs.Registers.{inDs0}
 use Rattle.sheet.specs.Reading.{Reading, got, _>>=_, _>>_, byte, allow}
 use Rattle.sheet.specs.Encoding.{segOr, modField, regField, memField, place, Row, row, W}

@@ -287,10 +287,9 @@ pub enum Control {
     SetDir,
 }
 
-pub enum Instr {
-    Transfers(Transfer),
+// What computes a result and takes no trap.
+pub enum Compute {
     Calculates(Arithmetic),
-    Multiplies(Multiply),
     Converts(Convert),
     Shifts {
         kind: Shift,
@@ -306,9 +305,20 @@ pub enum Instr {
     },
     Decimals(Decimal),
     Fields(Field),
+}
+
+// What moves data or PC and takes no trap.
+pub enum Move {
+    Transfers(Transfer),
     Stacks(Stack),
     Branches(Branch),
     Tests(Conditional),
+}
+
+pub enum Instr {
+    Computes(Compute),
+    Moves(Move),
+    Multiplies(Multiply),
     Interrupts(Interrupt),
     Blocks {
         primitive: Primitive,

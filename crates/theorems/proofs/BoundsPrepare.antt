@@ -12,7 +12,7 @@ use lib.Dec.{lit≤, lit<}
 use Rattle.sheet.specs.declared.Bus.{Bus}
 use Rattle.sheet.specs.declared.Stack.the-variants.{Prepare}
 use Rattle.sheet.specs.declared.Instr.{Instr}
-use Rattle.sheet.specs.declared.Instr.the-variants.{Stacks}
+use Rattle.sheet.specs.Groups.{Stacks}
 use Rattle.sheet.specs.Width.{wrapOf, sub16}
 use Rattle.sheet.specs.Psw.{Flag, BRK, Effect, flagOf, fixedOf, entering}
 use Rattle.sheet.specs.Registers.{SP, BP, PS, PC, PSW, File, fileOf}
@@ -23,7 +23,7 @@ use Rattle.sheet.specs.Handler.{run, runBy, tally}
 use Rattle.sheet.specs.Contract.{Seen, ends, exec, Ends, report, reportOf}
 use Rattle.sheet.specs.Traps.{push, pushPsw, pushPsPc, jumpFar, save, trap, untrapped}
 use Rattle.sheet.specs.Stack.{frame, frames, prepare, stack}
-use Rattle.sheet.specs.Execute.{operation, execute}
+use Rattle.sheet.specs.Execute.{moving, operation, execute}
 use Rattle.sheet.specs.Reading as reading
 use Rattle.sheet.specs.Reading.{scan, word}
 use Rattle.sheet.specs.Encoding.{prefixOf, lookUp}
@@ -143,7 +143,7 @@ of-pc : (x : ℕ) (w : World) → OddIn w → Exactly OddIn 0 tt (exec (PC ≔ x
 of-pc x w o = ended (ends-set PC x) (set-odd (w .state .file) PC x o (λ l. absurd (omega arith))) refl
 
 of-execute : (size n : ℕ) (w : World) → OddIn w → Exactly (OddAfter size) 1020 false (exec (execute (prepareAt size) n) w)
-unfolding execute operation untrapped stack
+unfolding execute moving operation untrapped stack
 of-execute size n w o =
     past _ w (next (PC ≔ _) _ w (of-pc _ w o) (λ v q. next (prepare size 255) _ v (of-prepare size v q) (λ x p. of-pure x p)))
 

@@ -9,7 +9,9 @@ use Rattle.sheet.specs.declared.Source.{Source}
 use Rattle.sheet.specs.declared.Source.the-variants.{Immediate}
 use Rattle.sheet.specs.declared.Prefixes.{Prefixes}
 use Rattle.sheet.specs.declared.Instr.{Instr}
-use Rattle.sheet.specs.declared.Instr.the-variants.{Transfers, Calculates, Multiplies, Converts, Shifts, Bits, Decimals, Fields, Stacks, Branches, Tests, Interrupts, Blocks, Ports, Controls}
+use Rattle.sheet.specs.declared.Move.{Move}
+use Rattle.sheet.specs.declared.Move.the-variants.{Transfers, Stacks, Branches, Tests}
+use Rattle.sheet.specs.declared.Instr.the-variants.{Computes, Moves, Multiplies, Interrupts, Blocks, Ports, Controls}
 use Rattle.sheet.specs.Width.{pick}
 use Rattle.sheet.specs.Reading.{Reading, got, need, no, _>>=_, Read, known, unknown, scan, byte, word, immediate, signedByte, allow}
 use Rattle.sheet.specs.Encoding.{modField, memField, displacement, withDisplacement, withOffset, address, inMemory, place, memory, Row, covers, lookUp}
@@ -102,18 +104,16 @@ of-plainPlace p = bind of-byte λ m _. bind (of-allow _) λ _ _. of-place p m
 -- ---- instructions
 
 -- PREPARE's level; others have none
+abbrev pub levelAmong : Move → ℕ
+levelAmong (Transfers i) = 0
+levelAmong (Stacks i) = levelOf i
+levelAmong (Branches i) = 0
+levelAmong (Tests i) = 0
+
 abbrev pub levelIn : Instr → ℕ
-levelIn (Transfers i) = 0
-levelIn (Calculates i) = 0
+levelIn (Computes i) = 0
+levelIn (Moves i) = levelAmong i
 levelIn (Multiplies i) = 0
-levelIn (Converts i) = 0
-levelIn (Shifts k w to places) = 0
-levelIn (Bits op w to number) = 0
-levelIn (Decimals i) = 0
-levelIn (Fields i) = 0
-levelIn (Stacks i) = levelOf i
-levelIn (Branches i) = 0
-levelIn (Tests i) = 0
 levelIn (Interrupts i) = 0
 levelIn (Blocks k w seg q) = 0
 levelIn (Ports i) = 0

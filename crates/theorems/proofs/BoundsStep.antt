@@ -9,7 +9,11 @@ use lib.Dec.{eqb, leb, ltb, lit≤}
 use borrow.Author.Tests.{eqb-true, eqb-false}
 use Rattle.sheet.specs.declared.Bus.{Bus}
 use Rattle.sheet.specs.declared.Instr.{Instr}
-use Rattle.sheet.specs.declared.Instr.the-variants.{Transfers, Calculates, Multiplies, Converts, Shifts, Bits, Decimals, Fields, Stacks, Branches, Tests, Interrupts, Blocks, Ports, Controls}
+use Rattle.sheet.specs.declared.Compute.{Compute}
+use Rattle.sheet.specs.declared.Compute.the-variants.{Calculates, Converts, Shifts, Bits, Decimals, Fields}
+use Rattle.sheet.specs.declared.Move.{Move}
+use Rattle.sheet.specs.declared.Move.the-variants.{Transfers, Stacks, Branches, Tests}
+use Rattle.sheet.specs.declared.Instr.the-variants.{Computes, Moves, Multiplies, Interrupts, Blocks, Ports, Controls}
 use Rattle.sheet.specs.Width.{pick}
 use Rattle.sheet.specs.Psw.{IE, flagOf}
 use Rattle.sheet.specs.Registers.{PS, PC, fileOf}
@@ -19,7 +23,7 @@ use Rattle.sheet.specs.Handler.{Event, Outcome, done, kept, run, runBy, tally}
 use Rattle.sheet.specs.Contract.{Seen, stops, ends, seen, exec}
 use Rattle.sheet.specs.Reading.{Read, known, unknown, scan}
 use Rattle.sheet.specs.FirstByte.{instruction}
-use Rattle.sheet.specs.Execute.{operation, execute}
+use Rattle.sheet.specs.Execute.{computing, moving, operation, execute}
 use Rattle.sheet.specs.Step.{fits, sound, checked, refusal, codeAt, source, interrupting, singleStep, stepping, counted, decoded, awake, stepBy, step, interruptBy, interrupt}
 use Rattle.sheet.specs.Act.{_>>=_}
 use Rattle.sheet.specs.Traps.{push, pushPsw, pushPsPc, jumpFar, save, trap}
@@ -31,24 +35,32 @@ use Rattle.theorems.proofs.BoundsRules.{Within, within, short-of, Most,
 use Rattle.theorems.proofs.BoundsOperands.{of-trap}
 use Rattle.theorems.proofs.BoundsGroups.{of-transfer, of-calculate, of-untrapped, of-multiply, of-convert, of-shift, of-bits, of-decimal, of-field}
 use Rattle.theorems.proofs.BoundsFlow.{of-stack, of-branch, of-conditional, of-interrupts, of-block, of-ports, of-control}
-use Rattle.theorems.proofs.BoundsReading.{Fine, Scanned, read, unread, scanned}
+use Rattle.theorems.proofs.BoundsReading.{levelAmong, Fine, Scanned, read, unread, scanned}
 use Rattle.theorems.proofs.BoundsCodes.{of-instruction}
 
 -- ---- an instruction
 
+of-computing : (i : Compute) → Most Unit (computing i) 1020
+unfolding computing
+of-computing (Calculates i) = up (lit≤ tt) (of-calculate i)
+of-computing (Converts i) = up (lit≤ tt) (of-convert i)
+of-computing (Shifts k w to places) = up (lit≤ tt) (of-shift k w to places)
+of-computing (Bits op w to number) = up (lit≤ tt) (of-bits op w to number)
+of-computing (Decimals i) = up (lit≤ tt) (of-decimal i)
+of-computing (Fields i) = up (lit≤ tt) (of-field i)
+
+of-moving : (i : Move) → levelAmong i ≤ 255 → Most Unit (moving i) 1020
+unfolding moving
+of-moving (Transfers i) h = up (lit≤ tt) (of-transfer i)
+of-moving (Stacks i) h = of-stack i h
+of-moving (Branches i) h = up (lit≤ tt) (of-branch i)
+of-moving (Tests i) h = up (lit≤ tt) (of-conditional i)
+
 of-operation : (i : Instr) → Fine i → (start : ℕ) → Most Bool (operation i start) 1020
 unfolding operation
-of-operation (Transfers i) h start = up (lit≤ tt) (of-untrapped (of-transfer i))
-of-operation (Calculates i) h start = up (lit≤ tt) (of-untrapped (of-calculate i))
+of-operation (Computes i) h start = of-untrapped (of-computing i)
+of-operation (Moves i) h start = of-untrapped (of-moving i h)
 of-operation (Multiplies i) h start = up (lit≤ tt) (of-multiply i)
-of-operation (Converts i) h start = up (lit≤ tt) (of-untrapped (of-convert i))
-of-operation (Shifts k w to places) h start = up (lit≤ tt) (of-untrapped (of-shift k w to places))
-of-operation (Bits op w to number) h start = up (lit≤ tt) (of-untrapped (of-bits op w to number))
-of-operation (Decimals i) h start = up (lit≤ tt) (of-untrapped (of-decimal i))
-of-operation (Fields i) h start = up (lit≤ tt) (of-untrapped (of-field i))
-of-operation (Stacks i) h start = of-untrapped (of-stack i h)
-of-operation (Branches i) h start = up (lit≤ tt) (of-untrapped (of-branch i))
-of-operation (Tests i) h start = up (lit≤ tt) (of-untrapped (of-conditional i))
 of-operation (Interrupts i) h start = up (lit≤ tt) (of-interrupts i)
 of-operation (Blocks k w seg q) h start = up (lit≤ tt) (of-untrapped (of-block k w seg q start))
 of-operation (Ports i) h start = up (lit≤ tt) (of-untrapped (of-ports i))
