@@ -1,7 +1,7 @@
 -- The table of first bytes by its parts, and prefixes before an instruction.
 use Prim.Native.Nat.{ℕ, zero, suc, _+_, _-_, _≤_, _<_}
 use mathlib.Core.Path.{_≡_, refl, sym, _∙_}
-use mathlib.Core.Bool.{Bool, true, false, _&&_}
+use mathlib.Core.Bool.{Bool, true, false, _&&_, true≢false}
 use mathlib.Core.List.{List, [], _∷_, _++_}
 use mathlib.Core.Option.{Option, none, some}
 use native.Mathlib.Omega.{arith}
@@ -78,9 +78,6 @@ unfolding prefixOf
 no-prefix p b (((((((((u, e), f), g), h), i), j), k), l), m) =
     rw (ne-eqb b 0x26 e, ne-eqb b 0x2e f, ne-eqb b 0x36 g, ne-eqb b 0x3e h, ne-eqb b 0x64 i, ne-eqb b 0x65 j, ne-eqb b 0xf0 k, ne-eqb b 0xf2 l, ne-eqb b 0xf3 m)
 
-true-not-false : true ≡ false → ⊥
-true-not-false e = let z : _≡_ {A = ℕ} 0 1 = cc in omega arith
-
 -- what the code's answer says of a byte
 none-of : (o : Option Prefix) (p : Prefixes) (f : Found) → f ≡ found o p → f .prefix ≡ false → o ≡ none
 unfolding found
@@ -90,7 +87,7 @@ none-of (some q) p f e h = let z : _≡_ {A = ℕ} 0 1 = cc in absurd (omega ari
 module _ (p : Prefixes) (b : ℕ) (f : Found) (e : f ≡ found (prefixOf b) p) {src : ℕ → ℕ} {i : ℕ} (x : Reads ℕ byte src i b (i + 1)) (most : i ≤ 3) where
   pub no-more : f .prefix ≡ false → Opens p src i (record { fourth = false; prefixes = p; byte = b; next = i + 1 })
   unfolding prefixed afterPrefix
-  no-more h = record { within = omega arith; refused = λ z. absurd (true-not-false (sym z)); decided = λ z r y. go (3 - i) r y }
+  no-more h = record { within = omega arith; refused = λ z. absurd (true≢false (sym z)); decided = λ z r y. go (3 - i) r y }
     where
       go : (room : ℕ) (r : Decoded) → Names (firstBytes p) b src (i + 1) r → Decodes (prefixed room p) src i r
       go zero r y = decodes-seq _ x (rw (none-of (prefixOf b) p f e h) (y .is))
@@ -98,7 +95,7 @@ module _ (p : Prefixes) (b : ℕ) (f : Found) (e : f ≡ found (prefixOf b) p) {
 
   pub too-many : f .prefix ≡ true → i ≡ 3 → Opens p src i (record { fourth = true; prefixes = p; byte = b; next = i + 1 })
   unfolding prefixed afterPrefix found
-  too-many h k = record { within = omega arith; refused = λ z. go (prefixOf b) refl e; decided = λ z. absurd (true-not-false z) }
+  too-many h k = record { within = omega arith; refused = λ z. go (prefixOf b) refl e; decided = λ z. absurd (true≢false z) }
     where
       go : (o : Option Prefix) → prefixOf b ≡ o → f ≡ found o p → Decodes (prefixed (3 - i) p) src i (Unknown 4)
       go none q e = let z : _≡_ {A = ℕ} 0 1 = cc in absurd (omega arith)
