@@ -1,7 +1,7 @@
-use Rattle.decode.proofs.Laws.{no-more, more}
+use Rattle.prefix_bytes.proofs.Laws.{no-more, more}
 use borrow.Author.Needs.{needs}
-use Rattle.decode.proofs.start.Statement.{statement}
-use Rattle.decode.proofs.start.Tie as tie
+use Rattle.prefix_bytes.proofs.start.Statement.{statement}
+use Rattle.prefix_bytes.proofs.start.Tie as tie
 
 returns : tie.Need-returns
 returns c = more _ _ _ (c .before .before .before .prefix .ensures) (c .before .before .before .before .code-byte .ensures) (search needs) (search needs) (search needs) (c .later .ensures)

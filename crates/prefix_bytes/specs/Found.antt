@@ -3,7 +3,7 @@ use mathlib.Core.Bool.{true, false}
 use mathlib.Core.Option.{Option, none, some}
 use Rattle.sheet.specs.declared.Prefixes.{Prefixes}
 use Rattle.sheet.specs.Encoding.{Prefix, withPrefix}
-use Rattle.decode.specs.declared.Found.{Found}
+use Rattle.prefix_bytes.specs.declared.Found.{Found}
 
 unfoldable pub found : Option Prefix → Prefixes → Found
 found none p = record { prefix = false; prefixes = p }

@@ -7,7 +7,7 @@ use Rattle.sheet.specs.FirstByte.{firstBytes, prefixed}
 use Rattle.answers.specs.declared.Decoded.{Decoded}
 use Rattle.answers.specs.declared.Decoded.the-variants.{Unknown}
 use Rattle.answers.specs.Answer.{Decodes, Names}
-use Rattle.decode.specs.declared.Opening.{Opening}
+use Rattle.prefix_bytes.specs.declared.Opening.{Opening}
 
 -- a fourth prefix is refused; a first byte after fewer decides the answer
 pub record Opens (p : Prefixes) (src : ℕ → ℕ) (i : ℕ) (s : Opening) : Type 0 where

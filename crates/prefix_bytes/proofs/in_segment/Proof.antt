@@ -1,7 +1,7 @@
-use Rattle.decode.specs.Found.{found}
+use Rattle.prefix_bytes.specs.Found.{found}
 use mathlib.Core.Path.{refl}
-use Rattle.decode.proofs.in_segment.Statement.{statement}
-use Rattle.decode.proofs.in_segment.Tie as tie
+use Rattle.prefix_bytes.proofs.in_segment.Statement.{statement}
+use Rattle.prefix_bytes.proofs.in_segment.Tie as tie
 
 returns : tie.Need-returns
 unfolding found

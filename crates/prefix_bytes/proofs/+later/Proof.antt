@@ -1,16 +1,16 @@
--- `decode::later` meets its contract: the measure is how many prefixes may follow.
+-- `prefix_bytes::later` meets its contract: the measure is how many prefixes may follow.
 use Prim.Native.Nat.{ℕ, _-_, _<_}
 use borrow.Author.Needs.{needs}
 use borrow.Fn.Kinds.{In}
 use borrow.Fn.PlainCycle.{Measures, is, falls, and}
 use Rattle.fetch.proofs.code_byte.Reads as code-byte-reads
-use Rattle.decode.proofs.Laws.{no-more, too-many, more}
-use Rattle.decode.proofs.prefix.Reads as prefix-reads
-use Rattle.decode.proofs.later.Reads as later
-use Rattle.decode.proofs.later.Kinds as kinds
-use Rattle.decode.proofs.+later.Lts-later as lts
-use Rattle.decode.proofs.+later.{statement}
-use Rattle.decode.proofs.+later.Tie.{close}
+use Rattle.prefix_bytes.proofs.Laws.{no-more, too-many, more}
+use Rattle.prefix_bytes.proofs.prefix.Reads as prefix-reads
+use Rattle.prefix_bytes.proofs.later.Reads as later
+use Rattle.prefix_bytes.proofs.later.Kinds as kinds
+use Rattle.prefix_bytes.proofs.+later.Lts-later as lts
+use Rattle.prefix_bytes.proofs.+later.{statement}
+use Rattle.prefix_bytes.proofs.+later.Tie.{close}
 
 abbrev μ-later : Measures 2 kinds.ps ℕ
 μ-later κs a = 3 - a .1 .1 .1 .1 .1 .0

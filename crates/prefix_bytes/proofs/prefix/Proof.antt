@@ -1,9 +1,9 @@
-use Rattle.decode.specs.Found.{found}
-use Rattle.decode.proofs.Laws.{no-prefix}
+use Rattle.prefix_bytes.specs.Found.{found}
+use Rattle.prefix_bytes.proofs.Laws.{no-prefix}
 use Rattle.sheet.specs.Encoding.{prefixOf}
 use borrow.Author.Needs.{needs}
-use Rattle.decode.proofs.prefix.Statement.{statement}
-use Rattle.decode.proofs.prefix.Tie as tie
+use Rattle.prefix_bytes.proofs.prefix.Statement.{statement}
+use Rattle.prefix_bytes.proofs.prefix.Tie as tie
 
 returns : tie.Need-returns
 unfolding prefixOf found
