@@ -1,16 +1,16 @@
 -- The first bytes below 40 by their low three bits, and what each return of the code comes to.
-use Prim.Native.Nat.{ℕ, _-_, _/_, _%_, _≤_, _<_}
-use mathlib.Core.Path.{_≡_, refl, sym, ap, _∙_}
+use Prim.Native.Nat.{ℕ, zero-le, _-_, _/_, _%_, _≤_, _<_}
+use mathlib.Core.Path.{_≡_, refl, _∙_}
+use mathlib.Core.Bool.{not, _&&_}
 use native.Mathlib.Omega.{arith}
 use lib.Dec.{eqb, ltb}
-use lib.ListN.{getD}
 use borrow.Author.Tests.{eq-eqb, ne-eqb, lt-ltb, le-ltb}
 use Rattle.sheet.specs.declared.Place.{Place}
 use Rattle.sheet.specs.declared.Place.the-variants.{Register}
 use Rattle.sheet.specs.declared.Source.the-variants.{Held}
 use Rattle.sheet.specs.declared.Operation.{Operation}
 use Rattle.sheet.specs.declared.Arithmetic.the-variants.{Two}
-use Rattle.sheet.specs.declared.Stack.the-variants.{PushSegment}
+use Rattle.sheet.specs.declared.Stack.the-variants.{PushSegment, PopSegment}
 use Rattle.sheet.specs.declared.Prefixes.{Prefixes}
 use Rattle.sheet.specs.declared.Instr.{Instr}
 use Rattle.sheet.specs.Groups.{Calculates, Stacks}
@@ -19,7 +19,7 @@ use Rattle.sheet.specs.Registers.{AW}
 use Rattle.sheet.specs.Reading.{Reading, got, no}
 use Rattle.sheet.specs.Encoding.{W, lookUp}
 use Rattle.sheet.specs.FirstByte.{operationAt, twoPlaces, withPlace, withAcc, bytes00}
-use Rattle.laws.proofs.Table.{values, table-at}
+use Rattle.laws.proofs.Table.{agree}
 use Rattle.answers.specs.declared.Decoded.{Decoded}
 use Rattle.answers.specs.declared.Decoded.the-variants.{Known, Unknown}
 use Rattle.answers.specs.Answer.{Decodes, Names}
@@ -30,20 +30,17 @@ use Rattle.places.proofs.OperandsLaws.{with-place}
 
 -- ---- columns of the table
 
--- rules whose first n values are alike
-agree : {A : Type 0} (f g : ℕ → A) (d : A) (n k : ℕ) → values f 0 n ≡ values g 0 n → k < n → f k ≡ g k
-agree f g d n k e h = sym (table-at f d n k h) ∙ (ap (λ l. getD l k d) e ∙ table-at g d n k h)
-
--- codes 0 to 3, 4 and 5, 6, and 7 as the table has it
+-- codes 0 to 3, 4 and 5, 6, and 7, of which 0F and those from 20 on are as the table has them
 abbrev columns : Prefixes → ℕ → Reading Instr
 columns p b =
     pick (ltb (b % 8) 4) (withPlace p (λ reg a. got (twoPlaces (operationAt (b / 8)) (b % 8) reg a)))
     (pick (ltb (b % 8) 6) (withAcc (λ v. Calculates (Two (operationAt (b / 8)) (W (b % 8 - 4)) (Register AW) v)) (W (b % 8 - 4)))
-    (pick (eqb (b % 8) 6) (pick (ltb b 0x20) (got (Stacks (PushSegment (b / 8)))) (no 3)) (lookUp (bytes00 p) b)))
+    (pick (eqb (b % 8) 6) (pick (ltb b 0x20) (got (Stacks (PushSegment (b / 8)))) (no 3))
+    (pick (ltb b 0x20 && not (eqb b 0x0f)) (got (Stacks (PopSegment (b / 8)))) (lookUp (bytes00 p) b))))
 
 by-column : (p : Prefixes) (b : ℕ) → b < 0x40 → lookUp (bytes00 p) b ≡ columns p b
 unfolding lookUp operationAt
-by-column p b h = agree (lookUp (bytes00 p)) (columns p) (no 3) 0x40 b refl h
+by-column p b h = agree (lookUp (bytes00 p)) (columns p) (no 3) 0 0x40 b refl zero-le h
 
 column6 : (p : Prefixes) (b : ℕ) → b < 0x40 → b % 8 ≡ 6 → lookUp (bytes00 p) b ≡ pick (ltb b 0x20) (got (Stacks (PushSegment (b / 8)))) (no 3)
 column6 p b h k = by-column p b h ∙ rw (le-ltb (b % 8) 4 (omega arith), le-ltb (b % 8) 6 (omega arith), eq-eqb (b % 8) 6 k)
@@ -58,6 +55,11 @@ module _ (p : Prefixes) {b : ℕ} {src : ℕ → ℕ} {i : ℕ} (h : b < 0x40) w
 
   pub at-segment : {r : Decoded} → b % 8 ≡ 6 → b < 0x20 → r ≡ Known (Stacks (PushSegment (b / 8))) i → Names (bytes00 p) b src i r
   at-segment k l e = record { is = decodes-as (column6 p b h k ∙ rw (lt-ltb b 0x20 l)) (decodes-known e) }
+
+  pub at-pop : {r : Decoded} → b % 8 ≡ 7 → (b ≡ 0x0f → ⊥) → b < 0x20 → r ≡ Known (Stacks (PopSegment (b / 8))) i → Names (bytes00 p) b src i r
+  at-pop k f l e =
+      let t = ne-eqb (b % 8) 6 (λ q. omega arith) in
+      record { is = decodes-as (by-column p b h ∙ rw (le-ltb (b % 8) 4 (omega arith), le-ltb (b % 8) 6 (omega arith), t, lt-ltb b 0x20 l, ne-eqb b 0x0f f)) (decodes-known e) }
 
   pub at-prefix : b % 8 ≡ 6 → 0x20 ≤ b → Names (bytes00 p) b src i (Unknown 3)
   at-prefix k l = record { is = decodes-as (column6 p b h k ∙ rw (le-ltb b 0x20 l)) decodes-no }

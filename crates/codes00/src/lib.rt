@@ -19,14 +19,8 @@ ghost use Rattle.sheet.specs.Step.{codeByte};
 ghost use Rattle.sheet.specs.FirstByte.{withPlace, withAcc, twoPlaces, bytes00};
 ghost use Rattle.answers.specs.Answer.{Decodes, Names};
 
-// Numbers: of AW and AL, and of the segments.
+// The number of AW and AL.
 const ACC: u8 = 0;
-
-const DS1: u8 = 0;
-
-const SS: u8 = 2;
-
-const DS0: u8 = 3;
 
 // A register and a place: bit 1 of the code says which one is the destination.
 fn two_places(
@@ -84,45 +78,25 @@ fn with_acc(ram: &[u8], rom: &[u8], ps: u16, pc: u16, op: Operation, n: u8, i: u
     )
 }
 
-// 06, 0E, 16, 1E push a segment register; 26, 2E, 36, 3E are prefixes and name no instruction.
-fn column6(ram: &[u8], rom: &[u8], ps: u16, pc: u16, p: Prefixes, b: u8, i: u16) -> Decoded
-    requires { ⌜ (b < 0x40) × ((b % 8 ≡ 6) × (i ≤ 4)) ⌝ }
-    ensures { λ r. ⌜ Names (bytes00 p) b (codeByte (now (ram .entry)) (now (rom .entry)) ps pc) i r ⌝ }
-{
-    if b < 0x20 {
-        return answers::stacks(Stack::PushSegment { seg: b / 8 }, i);
-    }
-    Decoded::Unknown { number: 3 }
-}
-
 // 07, 0F, 17, .. 3F.
 fn column7(ram: &[u8], rom: &[u8], ps: u16, pc: u16, p: Prefixes, b: u8, i: u16) -> Decoded
     requires { ⌜ (b < 0x40) × ((b % 8 ≡ 7) × (i ≤ 4)) ⌝ }
     ensures { λ r. ⌜ Names (bytes00 p) b (codeByte (now (ram .entry)) (now (rom .entry)) ps pc) i r ⌝ }
 {
-    if b < 0x08 {
-        return answers::stacks(Stack::PopSegment { seg: DS1 }, i);
-    }
-    if b < 0x10 {
+    if b == 0x0f {
         let second = fetch::code_byte(ram, rom, ps, pc, i);
         return codes0f::codes0f(ram, rom, ps, pc, p, second, i + 1);
     }
-    if b < 0x18 {
-        return answers::stacks(Stack::PopSegment { seg: SS }, i);
-    }
     if b < 0x20 {
-        return answers::stacks(Stack::PopSegment { seg: DS0 }, i);
+        return answers::stacks(Stack::PopSegment { seg: b / 8 }, i);
     }
-    if b < 0x28 {
-        return answers::converts(Convert::Adj4a, i);
-    }
-    if b < 0x30 {
-        return answers::converts(Convert::Adj4s, i);
-    }
-    if b < 0x38 {
-        return answers::converts(Convert::Adjba, i);
-    }
-    answers::converts(Convert::Adjbs, i)
+    let group = match b {
+        0x27 => Convert::Adj4a,
+        0x2f => Convert::Adj4s,
+        0x37 => Convert::Adjba,
+        _ => Convert::Adjbs,
+    };
+    answers::converts(group, i)
 }
 
 pub fn codes00(ram: &[u8], rom: &[u8], ps: u16, pc: u16, p: Prefixes, b: u8, i: u16) -> Decoded
@@ -137,8 +111,12 @@ pub fn codes00(ram: &[u8], rom: &[u8], ps: u16, pc: u16, p: Prefixes, b: u8, i: 
         let op = places::operation_at(b / 8);
         return with_acc(ram, rom, ps, pc, op, b % 8 - 4, i);
     }
-    if b % 8 == 6 {
-        return column6(ram, rom, ps, pc, p, b, i);
+    if b % 8 == 7 {
+        return column7(ram, rom, ps, pc, p, b, i);
     }
-    column7(ram, rom, ps, pc, p, b, i)
+    if b < 0x20 {
+        return answers::stacks(Stack::PushSegment { seg: b / 8 }, i);
+    }
+    // 26, 2E, 36, 3E are prefixes
+    Decoded::Unknown { number: 3 }
 }

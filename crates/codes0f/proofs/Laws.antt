@@ -1,47 +1,67 @@
 -- What each return of the code comes to, over plain values.
-use Prim.Native.Nat.{ℕ, _/_, _%_}
-use mathlib.Core.Path.{_≡_}
-use mathlib.Core.Bool.{true, _&&_}
+use Prim.Native.Nat.{ℕ, _/_, _%_, _≤_, _<_}
+use mathlib.Core.Path.{_≡_, refl, _∙_}
+use mathlib.Core.Bool.{Bool, true, false, _&&_}
+use mathlib.Core.List.{[], _∷_}
 use native.Mathlib.Omega.{arith}
-use lib.Dec.{eqb}
-use borrow.Author.Tests.{eq-eqb, ne-eqb, eqb-true}
+use lib.Dec.{eqb, ltb}
+use lib.ListN.{getD}
+use borrow.Author.Tests.{eq-eqb, ne-eqb, eqb-true, lt-ltb, le-ltb}
 use Rattle.sheet.specs.declared.Place.{Place}
 use Rattle.sheet.specs.declared.Amount.the-variants.{InCl, Given}
 use Rattle.sheet.specs.declared.Bit.{Bit}
+use Rattle.sheet.specs.declared.Bit.the-variants.{Test1, Clr1, Set1, Not1}
 use Rattle.sheet.specs.declared.Length.{Length}
 use Rattle.sheet.specs.declared.Length.the-variants as length
 use Rattle.sheet.specs.declared.Prefixes.{Prefixes}
 use Rattle.sheet.specs.declared.Instr.{Instr}
 use Rattle.sheet.specs.Groups.{Bits}
-use Rattle.sheet.specs.Reading.{got, byte}
-use Rattle.sheet.specs.Encoding.{W, modField, regField}
-use Rattle.sheet.specs.SecondByte.{bitInCl, bitGiven, fieldInRegister, fieldGiven}
+use Rattle.sheet.specs.Width.{pick}
+use Rattle.sheet.specs.Reading.{got, no, byte}
+use Rattle.sheet.specs.Encoding.{W, modField, regField, lookUp}
+use Rattle.sheet.specs.SecondByte.{bitInCl, bitGiven, fieldInRegister, fieldGiven, secondBytes}
 use Rattle.sheet.specs.Contract.{Reads}
+use Rattle.laws.proofs.Table.{agree}
 use Rattle.answers.specs.declared.Decoded.{Decoded}
 use Rattle.answers.specs.declared.Decoded.the-variants.{Known, Unknown}
-use Rattle.answers.specs.Answer.{Decodes}
-use Rattle.answers.proofs.DecodesLaws.{decodes-seq, decodes-refused, decodes-allowed, decodes-barred}
-use Rattle.answers.proofs.CodeLaws.{not-both}
+use Rattle.answers.specs.Answer.{Decodes, Names}
+use Rattle.answers.proofs.DecodesLaws.{decodes-as, decodes-seq, decodes-refused, decodes-allowed, decodes-barred}
+use Rattle.answers.proofs.CodeLaws.{not-both, Left}
 use Rattle.answers.proofs.FollowLaws.{decodes-known}
 use Rattle.places.specs.Operands.{Operands}
 use Rattle.places.proofs.OperandsLaws.{plain-reads, plain-refuses, of-plain, not-plain}
 
-module _ {p : Prefixes} {src : ℕ → ℕ} {i reg j : ℕ} {a : Place} (o : Operands p src i reg a j) (op : Bit) (n : ℕ) where
-  pub in-cl : {r : Decoded} → reg ≡ 0 → r ≡ Known (Bits op (W n) a InCl) j → Decodes (bitInCl p op n) src i r
+-- ---- one bit of a place
+
+-- the operations in the order of their codes
+abbrev pub bitAt : ℕ → Bit
+bitAt n = getD (Test1 ∷ Clr1 ∷ Set1 ∷ Not1 ∷ []) n Not1
+
+pub last-bit : (b : ℕ) → Left Unit ((0 ∷ []) ∷ (1 ∷ []) ∷ (2 ∷ []) ∷ []) (b / 2 % 4) → Not1 ≡ bitAt (b / 2 % 4)
+last-bit b (((u, f), g), h) = let e : b / 2 % 4 ≡ 3 = omega (arith, f, g, h) in rw e
+
+bit-rows : (p : Prefixes) (b : ℕ) → 0x10 ≤ b → b < 0x20 → lookUp (secondBytes p) b ≡ pick (ltb b 0x18) (bitInCl p (bitAt (b / 2 % 4)) b) (bitGiven p (bitAt (b / 2 % 4)) b)
+unfolding lookUp bitInCl bitGiven
+bit-rows p b l h = agree (lookUp (secondBytes p)) (λ b. pick (ltb b 0x18) (bitInCl p (bitAt (b / 2 % 4)) b) (bitGiven p (bitAt (b / 2 % 4)) b)) (no 3) 0x10 0x10 b refl l h
+
+module _ {p : Prefixes} {src : ℕ → ℕ} {i reg j b : ℕ} {a : Place} (o : Operands p src i reg a j) (l : 0x10 ≤ b) (h : b < 0x20) where
+  pub in-cl : {op : Bit} {r : Decoded} → reg ≡ 0 → op ≡ bitAt (b / 2 % 4) → b < 0x18 → r ≡ Known (Bits op (W b) a InCl) j → Names (secondBytes p) b src i r
   unfolding bitInCl
-  in-cl h e = of-plain o _ h e
+  in-cl z q k e = record { is = decodes-as {q = bitInCl p (bitAt (b / 2 % 4)) b} (bit-rows p b l h ∙ rw (lt-ltb b 0x18 k)) (of-plain o _ z (rw q at e)) }
 
-  pub not-in-cl : (reg ≡ 0 → ⊥) → Decodes (bitInCl p op n) src i (Unknown 3)
-  unfolding bitInCl
-  not-in-cl h = not-plain o _ h
-
-  pub given : {v k : ℕ} {r : Decoded} → reg ≡ 0 → Reads ℕ byte src j v k → r ≡ Known (Bits op (W n) a (Given v)) k → Decodes (bitGiven p op n) src i r
+  pub given : {op : Bit} {v k : ℕ} {r : Decoded} → reg ≡ 0 → op ≡ bitAt (b / 2 % 4) → 0x18 ≤ b → Reads ℕ byte src j v k → r ≡ Known (Bits op (W b) a (Given v)) k → Names (secondBytes p) b src i r
   unfolding bitGiven
-  given h x e = decodes-seq _ (plain-reads o h) (decodes-seq _ x (decodes-known e))
+  given z q k x e = record { is = decodes-as {q = bitGiven p (bitAt (b / 2 % 4)) b} (bit-rows p b l h ∙ rw (le-ltb b 0x18 k)) (decodes-seq _ (plain-reads o z) (decodes-seq _ x (decodes-known (rw q at e)))) }
 
-  pub not-given : (reg ≡ 0 → ⊥) → Decodes (bitGiven p op n) src i (Unknown 3)
-  unfolding bitGiven
-  not-given h = decodes-refused _ (plain-refuses o h)
+  pub no-bit : (reg ≡ 0 → ⊥) → Names (secondBytes p) b src i (Unknown 3)
+  unfolding bitInCl bitGiven
+  no-bit z = record { is = decodes-as (bit-rows p b l h) (go (ltb b 0x18)) }
+    where
+      go : (c : Bool) → Decodes (pick c (bitInCl p (bitAt (b / 2 % 4)) b) (bitGiven p (bitAt (b / 2 % 4)) b)) src i (Unknown 3)
+      go true = not-plain o _ z
+      go false = decodes-refused _ (plain-refuses o z)
+
+-- ---- bit fields
 
 module _ {src : ℕ → ℕ} {i j m : ℕ} (k : ℕ → Length → Instr) (x : Reads ℕ byte src i m j) where
   pub field-register : {r : Decoded} → m / 64 ≡ 3 → r ≡ Known (k (m % 8) (length.InRegister (m / 8 % 8))) j → Decodes (fieldInRegister (λ o l. got (k o l))) src i r

@@ -13,6 +13,7 @@ ghost use Prim.Native.Nat.{_≤_, _<_};
 ghost use Rattle.sheet.specs.declared.Instr.the-variants.{Multiplies, Interrupts};
 ghost use Rattle.sheet.specs.declared.Multiply.the-variants.{MulByte, MulWord};
 ghost use Rattle.sheet.specs.declared.Interrupt.the-variants.{Chkind};
+ghost use Rattle.sheet.specs.Width.{pick};
 ghost use Rattle.sheet.specs.Step.{codeByte};
 ghost use Rattle.sheet.specs.FirstByte.{withPlace, withMemory, withWord, withShort, bytes40};
 ghost use Rattle.answers.specs.Answer.{Decodes, Names};
@@ -23,41 +24,37 @@ fn chkind(ram: &[u8], rom: &[u8], ps: u16, pc: u16, p: Prefixes, i: u16) -> Deco
 {
     let o = places::operands(ram, rom, ps, pc, p, i);
     let place = o.place;
-    match place {
-        Place::Memory(from) => answers::interrupts(
-            Interrupt::Chkind {
-                reg: o.reg,
-                from: from,
-            },
-            o.next,
-        ),
-        Place::Register(n) => Decoded::Unknown { number: 3 },
-    }
-}
-
-fn multiply_word(ram: &[u8], rom: &[u8], ps: u16, pc: u16, p: Prefixes, i: u16) -> Decoded
-    requires { ⌜ i ≤ 4 ⌝ }
-    ensures { λ r. ⌜ Decodes (withPlace p (λ reg a. withWord (λ v. Multiplies (MulWord reg a v)))) (codeByte (now (ram .entry)) (now (rom .entry)) ps pc) i r ⌝ }
-{
-    let o = places::operands(ram, rom, ps, pc, p, i);
-    let place = o.place;
-    let v = fetch::code_word(ram, rom, ps, pc, o.next);
-    answers::multiplies(
-        Multiply::MulWord {
+    let from = match place {
+        Place::Memory(from) => from,
+        Place::Register(n) => return Decoded::Unknown { number: 3 },
+    };
+    answers::interrupts(
+        Interrupt::Chkind {
             reg: o.reg,
-            from: place,
-            by: v,
+            from: from,
         },
-        o.next + 2,
+        o.next,
     )
 }
 
-fn multiply_byte(ram: &[u8], rom: &[u8], ps: u16, pc: u16, p: Prefixes, i: u16) -> Decoded
+// By a word, or by a byte with its sign.
+fn multiply(ram: &[u8], rom: &[u8], ps: u16, pc: u16, p: Prefixes, word: bool, i: u16) -> Decoded
     requires { ⌜ i ≤ 4 ⌝ }
-    ensures { λ r. ⌜ Decodes (withPlace p (λ reg a. withShort (λ v. Multiplies (MulByte reg a v)))) (codeByte (now (ram .entry)) (now (rom .entry)) ps pc) i r ⌝ }
+    ensures { λ r. ⌜ Decodes (withPlace p (λ reg a. pick word (withWord (λ v. Multiplies (MulWord reg a v))) (withShort (λ v. Multiplies (MulByte reg a v))))) (codeByte (now (ram .entry)) (now (rom .entry)) ps pc) i r ⌝ }
 {
     let o = places::operands(ram, rom, ps, pc, p, i);
     let place = o.place;
+    if word {
+        let v = fetch::code_word(ram, rom, ps, pc, o.next);
+        return answers::multiplies(
+            Multiply::MulWord {
+                reg: o.reg,
+                from: place,
+                by: v,
+            },
+            o.next + 2,
+        );
+    }
     let v = fetch::code_short(ram, rom, ps, pc, o.next);
     answers::multiplies(
         Multiply::MulByte {
@@ -79,9 +76,11 @@ fn codes60(ram: &[u8], rom: &[u8], ps: u16, pc: u16, p: Prefixes, b: u8, i: u16)
     if 0x6c <= b {
         return places::block(p, Primitive::Inm, b - 0x6c, i);
     }
+    if b < 0x62 {
+        let group = if b == 0x60 { Stack::PushR } else { Stack::PopR };
+        return answers::stacks(group, i);
+    }
     match b {
-        0x60 => answers::stacks(Stack::PushR, i),
-        0x61 => answers::stacks(Stack::PopR, i),
         0x62 => chkind(ram, rom, ps, pc, p, i),
         0x68 => answers::stacks(
             Stack::PushWord {
@@ -89,14 +88,14 @@ fn codes60(ram: &[u8], rom: &[u8], ps: u16, pc: u16, p: Prefixes, b: u8, i: u16)
             },
             i + 2,
         ),
-        0x69 => multiply_word(ram, rom, ps, pc, p, i),
+        0x69 => multiply(ram, rom, ps, pc, p, true, i),
         0x6a => answers::stacks(
             Stack::PushByte {
                 value: fetch::code_short(ram, rom, ps, pc, i),
             },
             i + 1,
         ),
-        0x6b => multiply_byte(ram, rom, ps, pc, p, i),
+        0x6b => multiply(ram, rom, ps, pc, p, false, i),
         _ => Decoded::Unknown { number: 3 },
     }
 }
@@ -105,41 +104,25 @@ pub fn codes40(ram: &[u8], rom: &[u8], ps: u16, pc: u16, p: Prefixes, b: u8, i: 
     requires { ⌜ (0x40 ≤ b) × ((b < 0x80) × (i ≤ 4)) ⌝ }
     ensures { λ r. ⌜ Names (bytes40 p) b (codeByte (now (ram .entry)) (now (rom .entry)) ps pc) i r ⌝ }
 {
-    if b < 0x48 {
-        return answers::calculates(
-            Arithmetic::One {
-                op: Unary::Inc,
-                word: true,
-                to: Place::Register(b - 0x40),
-            },
-            i,
-        );
-    }
     if b < 0x50 {
+        let op = if b < 0x48 { Unary::Inc } else { Unary::Dec };
         return answers::calculates(
             Arithmetic::One {
-                op: Unary::Dec,
+                op: op,
                 word: true,
-                to: Place::Register(b - 0x48),
-            },
-            i,
-        );
-    }
-    if b < 0x58 {
-        return answers::stacks(
-            Stack::Push {
-                from: Place::Register(b - 0x50),
+                to: Place::Register(b % 8),
             },
             i,
         );
     }
     if b < 0x60 {
-        return answers::stacks(
-            Stack::Pop {
-                to: Place::Register(b - 0x58),
-            },
-            i,
-        );
+        let reg = Place::Register(b % 8);
+        let group = if b < 0x58 {
+            Stack::Push { from: reg }
+        } else {
+            Stack::Pop { to: reg }
+        };
+        return answers::stacks(group, i);
     }
     if b < 0x70 {
         return codes60(ram, rom, ps, pc, p, b, i);

@@ -75,34 +75,24 @@ fn two_places(ram: &[u8], rom: &[u8], ps: u16, pc: u16, p: Prefixes, b: u8, i: u
             o.next,
         );
     }
-    if b < 0x88 {
-        return answers::transfers(
-            Transfer::Xch {
-                word: (b - 0x86) % 2 == 1,
-                reg: o.reg,
-                with: place,
-            },
-            o.next,
-        );
-    }
-    if b < 0x8a {
-        return answers::transfers(
-            Transfer::Mov {
-                word: (b - 0x88) % 2 == 1,
-                to: place,
-                from: Source::Held(Place::Register(o.reg)),
-            },
-            o.next,
-        );
-    }
-    answers::transfers(
-        Transfer::Mov {
+    let group = match b / 2 {
+        0x43 => Transfer::Xch {
+            word: (b - 0x86) % 2 == 1,
+            reg: o.reg,
+            with: place,
+        },
+        0x44 => Transfer::Mov {
+            word: (b - 0x88) % 2 == 1,
+            to: place,
+            from: Source::Held(Place::Register(o.reg)),
+        },
+        _ => Transfer::Mov {
             word: (b - 0x8a) % 2 == 1,
             to: Place::Register(o.reg),
             from: Source::Held(place),
         },
-        o.next,
-    )
+    };
+    answers::transfers(group, o.next)
 }
 
 fn from_segment(ram: &[u8], rom: &[u8], ps: u16, pc: u16, p: Prefixes, i: u16) -> Decoded
@@ -151,16 +141,17 @@ fn ldea(ram: &[u8], rom: &[u8], ps: u16, pc: u16, p: Prefixes, i: u16) -> Decode
 {
     let o = places::operands(ram, rom, ps, pc, p, i);
     let place = o.place;
-    match place {
-        Place::Memory(from) => answers::transfers(
-            Transfer::Ldea {
-                reg: o.reg,
-                from: from,
-            },
-            o.next,
-        ),
-        Place::Register(n) => Decoded::Unknown { number: 3 },
-    }
+    let from = match place {
+        Place::Memory(from) => from,
+        Place::Register(n) => return Decoded::Unknown { number: 3 },
+    };
+    answers::transfers(
+        Transfer::Ldea {
+            reg: o.reg,
+            from: from,
+        },
+        o.next,
+    )
 }
 
 fn pop(ram: &[u8], rom: &[u8], ps: u16, pc: u16, p: Prefixes, i: u16) -> Decoded
@@ -185,10 +176,14 @@ pub fn codes80(ram: &[u8], rom: &[u8], ps: u16, pc: u16, p: Prefixes, b: u8, i: 
     if b < 0x8c {
         return two_places(ram, rom, ps, pc, p, b, i);
     }
-    match b {
-        0x8c => from_segment(ram, rom, ps, pc, p, i),
-        0x8d => ldea(ram, rom, ps, pc, p, i),
-        0x8e => to_segment(ram, rom, ps, pc, p, i),
-        _ => pop(ram, rom, ps, pc, p, i),
+    if b == 0x8c {
+        return from_segment(ram, rom, ps, pc, p, i);
     }
+    if b == 0x8d {
+        return ldea(ram, rom, ps, pc, p, i);
+    }
+    if b == 0x8e {
+        return to_segment(ram, rom, ps, pc, p, i);
+    }
+    pop(ram, rom, ps, pc, p, i)
 }

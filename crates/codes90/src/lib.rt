@@ -44,16 +44,34 @@ fn codes98(ram: &[u8], rom: &[u8], ps: u16, pc: u16, p: Prefixes, b: u8, i: u16)
     requires { ⌜ (0x98 ≤ b) × ((b < 0xa0) × (i ≤ 4)) ⌝ }
     ensures { λ r. ⌜ Names (bytes80 p) b (codeByte (now (ram .entry)) (now (rom .entry)) ps pc) i r ⌝ }
 {
-    match b {
-        0x98 => answers::converts(Convert::Cvtbw, i),
-        0x99 => answers::converts(Convert::Cvtwl, i),
-        0x9a => call_far(ram, rom, ps, pc, i),
-        0x9c => answers::stacks(Stack::PushPsw, i),
-        0x9d => answers::stacks(Stack::PopPsw, i),
-        0x9e => answers::transfers(Transfer::PswFromAh, i),
-        0x9f => answers::transfers(Transfer::AhFromPsw, i),
-        _ => Decoded::Unknown { number: 3 },
+    if b < 0x9a {
+        let group = if b == 0x98 {
+            Convert::Cvtbw
+        } else {
+            Convert::Cvtwl
+        };
+        return answers::converts(group, i);
     }
+    if b == 0x9a {
+        return call_far(ram, rom, ps, pc, i);
+    }
+    if b == 0x9b {
+        return Decoded::Unknown { number: 3 };
+    }
+    if b < 0x9e {
+        let group = if b == 0x9c {
+            Stack::PushPsw
+        } else {
+            Stack::PopPsw
+        };
+        return answers::stacks(group, i);
+    }
+    let group = if b == 0x9e {
+        Transfer::PswFromAh
+    } else {
+        Transfer::AhFromPsw
+    };
+    answers::transfers(group, i)
 }
 
 // A0 to A3: the accumulator and a byte or word at a 16-bit address.
@@ -63,22 +81,18 @@ fn acc_memory(ram: &[u8], rom: &[u8], ps: u16, pc: u16, p: Prefixes, b: u8, i: u
 {
     let offset = fetch::code_word(ram, rom, ps, pc, i);
     let address = places::direct(p, offset);
-    if b < 0xa2 {
-        return answers::transfers(
-            Transfer::LoadAcc {
-                word: (b - 0xa0) % 2 == 1,
-                from: address,
-            },
-            i + 2,
-        );
-    }
-    answers::transfers(
+    let group = if b < 0xa2 {
+        Transfer::LoadAcc {
+            word: (b - 0xa0) % 2 == 1,
+            from: address,
+        }
+    } else {
         Transfer::StoreAcc {
             word: (b - 0xa2) % 2 == 1,
             to: address,
-        },
-        i + 2,
-    )
+        }
+    };
+    answers::transfers(group, i + 2)
 }
 
 fn test_acc(ram: &[u8], rom: &[u8], ps: u16, pc: u16, n: u8, i: u16) -> Decoded
@@ -104,22 +118,17 @@ fn codesa0(ram: &[u8], rom: &[u8], ps: u16, pc: u16, p: Prefixes, b: u8, i: u16)
     if b < 0xa4 {
         return acc_memory(ram, rom, ps, pc, p, b, i);
     }
-    if b < 0xa6 {
-        return places::block(p, Primitive::Movbk, b - 0xa4, i);
-    }
-    if b < 0xa8 {
-        return places::block(p, Primitive::Cmpbk, b - 0xa6, i);
-    }
-    if b < 0xaa {
+    if b / 2 == 0x54 {
         return test_acc(ram, rom, ps, pc, b - 0xa8, i);
     }
-    if b < 0xac {
-        return places::block(p, Primitive::Stm, b - 0xaa, i);
-    }
-    if b < 0xae {
-        return places::block(p, Primitive::Ldm, b - 0xac, i);
-    }
-    places::block(p, Primitive::Cmpm, b - 0xae, i)
+    let primitive = match b / 2 {
+        0x52 => Primitive::Movbk,
+        0x53 => Primitive::Cmpbk,
+        0x55 => Primitive::Stm,
+        0x56 => Primitive::Ldm,
+        _ => Primitive::Cmpm,
+    };
+    places::block(p, primitive, b, i)
 }
 
 // B0 to BF: a register and an immediate.

@@ -48,34 +48,33 @@ fn load_pointer(ram: &[u8], rom: &[u8], ps: u16, pc: u16, p: Prefixes, seg: u8, 
 {
     let o = places::operands(ram, rom, ps, pc, p, i);
     let place = o.place;
-    match place {
-        Place::Memory(from) => answers::transfers(
-            Transfer::LoadPointer {
-                seg: seg,
-                reg: o.reg,
-                from: from,
-            },
-            o.next,
-        ),
-        Place::Register(n) => Decoded::Unknown { number: 3 },
-    }
+    let from = match place {
+        Place::Memory(from) => from,
+        Place::Register(n) => return Decoded::Unknown { number: 3 },
+    };
+    answers::transfers(
+        Transfer::LoadPointer {
+            seg: seg,
+            reg: o.reg,
+            from: from,
+        },
+        o.next,
+    )
 }
 
 fn codesc2(ram: &[u8], rom: &[u8], ps: u16, pc: u16, p: Prefixes, b: u8, i: u16) -> Decoded
     requires { ⌜ (0xc2 ≤ b) × ((b < 0xc6) × (i ≤ 4)) ⌝ }
     ensures { λ r. ⌜ Names (bytesC0 p) b (codeByte (now (ram .entry)) (now (rom .entry)) ps pc) i r ⌝ }
 {
-    match b {
-        0xc2 => answers::branches(
-            Branch::RetPop {
-                size: fetch::code_word(ram, rom, ps, pc, i),
-            },
-            i + 2,
-        ),
-        0xc3 => answers::branches(Branch::Ret, i),
-        0xc4 => load_pointer(ram, rom, ps, pc, p, DS1, i),
-        _ => load_pointer(ram, rom, ps, pc, p, DS0, i),
+    if b == 0xc2 {
+        let size = fetch::code_word(ram, rom, ps, pc, i);
+        return answers::branches(Branch::RetPop { size: size }, i + 2);
     }
+    if b == 0xc3 {
+        return answers::branches(Branch::Ret, i);
+    }
+    let seg = if b == 0xc4 { DS1 } else { DS0 };
+    load_pointer(ram, rom, ps, pc, p, seg, i)
 }
 
 // C6 and C7: an immediate to a place.
@@ -104,40 +103,41 @@ fn codesc8(ram: &[u8], rom: &[u8], ps: u16, pc: u16, p: Prefixes, b: u8, i: u16)
     requires { ⌜ (0xc8 ≤ b) × ((b < 0xcc) × (i ≤ 4)) ⌝ }
     ensures { λ r. ⌜ Names (bytesC0 p) b (codeByte (now (ram .entry)) (now (rom .entry)) ps pc) i r ⌝ }
 {
-    match b {
-        0xc8 => answers::stacks(
+    if b == 0xc8 {
+        let size = fetch::code_word(ram, rom, ps, pc, i);
+        let level = fetch::code_byte(ram, rom, ps, pc, i + 2);
+        return answers::stacks(
             Stack::Prepare {
-                size: fetch::code_word(ram, rom, ps, pc, i),
-                level: fetch::code_byte(ram, rom, ps, pc, i + 2),
+                size: size,
+                level: level,
             },
             i + 2 + 1,
-        ),
-        0xc9 => answers::stacks(Stack::Dispose, i),
-        0xca => answers::branches(
-            Branch::RetFarPop {
-                size: fetch::code_word(ram, rom, ps, pc, i),
-            },
-            i + 2,
-        ),
-        _ => answers::branches(Branch::RetFar, i),
+        );
     }
+    if b == 0xc9 {
+        return answers::stacks(Stack::Dispose, i);
+    }
+    if b == 0xca {
+        let size = fetch::code_word(ram, rom, ps, pc, i);
+        return answers::branches(Branch::RetFarPop { size: size }, i + 2);
+    }
+    answers::branches(Branch::RetFar, i)
 }
 
 fn codescc(ram: &[u8], rom: &[u8], ps: u16, pc: u16, p: Prefixes, b: u8, i: u16) -> Decoded
     requires { ⌜ (0xcc ≤ b) × ((b < 0xd0) × (i ≤ 4)) ⌝ }
     ensures { λ r. ⌜ Names (bytesC0 p) b (codeByte (now (ram .entry)) (now (rom .entry)) ps pc) i r ⌝ }
 {
-    match b {
-        0xcc => answers::interrupts(Interrupt::Brk3, i),
-        0xcd => answers::interrupts(
-            Interrupt::Brk {
-                vector: fetch::code_byte(ram, rom, ps, pc, i),
-            },
-            i + 1,
-        ),
-        0xce => answers::interrupts(Interrupt::Brkv, i),
-        _ => answers::interrupts(Interrupt::Reti, i),
+    if b == 0xcd {
+        let vector = fetch::code_byte(ram, rom, ps, pc, i);
+        return answers::interrupts(Interrupt::Brk { vector: vector }, i + 1);
     }
+    let group = match b {
+        0xcc => Interrupt::Brk3,
+        0xce => Interrupt::Brkv,
+        _ => Interrupt::Reti,
+    };
+    answers::interrupts(group, i)
 }
 
 pub fn codesc0(ram: &[u8], rom: &[u8], ps: u16, pc: u16, p: Prefixes, b: u8, i: u16) -> Decoded

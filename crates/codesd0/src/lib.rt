@@ -5,16 +5,10 @@ use sheet::Convert;
 use sheet::Places;
 use sheet::Prefixes;
 use sheet::Transfer;
-ghost use mathlib.Core.Path.{_≡_};
 ghost use Prim.Native.Nat.{_≤_, _<_};
-ghost use Rattle.sheet.specs.Groups.{Transfers};
-ghost use Rattle.sheet.specs.declared.Transfer.the-variants.{Trans};
-ghost use Rattle.sheet.specs.Registers.{inDs0};
 ghost use Rattle.sheet.specs.Reading.{got};
-ghost use Rattle.sheet.specs.Encoding.{segOr};
 ghost use Rattle.sheet.specs.Step.{codeByte};
 ghost use Rattle.sheet.specs.FirstByte.{shiftGroup, afterTen, bytesC0};
-ghost use Rattle.answers.specs.declared.Decoded.the-variants.{Known};
 ghost use Rattle.answers.specs.Answer.{Decodes, Names};
 
 // The number of DS0.
@@ -55,14 +49,6 @@ fn after_ten(ram: &[u8], rom: &[u8], ps: u16, pc: u16, group: Convert, i: u16) -
     Decoded::Unknown { number: 3 }
 }
 
-fn trans(p: Prefixes, i: u16) -> Decoded
-    ensures { λ r. ⌜ r ≡ Known (Transfers (Trans (segOr (p .seg) inDs0))) i ⌝ }
-{
-    let seg = p.seg;
-    let table = places::seg_or(seg, DS0);
-    answers::transfers(Transfer::Trans { seg: table }, i)
-}
-
 pub fn codesd0(ram: &[u8], rom: &[u8], ps: u16, pc: u16, p: Prefixes, b: u8, i: u16) -> Decoded
     requires { ⌜ (0xd0 ≤ b) × ((b < 0xe0) × (i ≤ 4)) ⌝ }
     ensures { λ r. ⌜ Names (bytesC0 p) b (codeByte (now (ram .entry)) (now (rom .entry)) ps pc) i r ⌝ }
@@ -82,10 +68,18 @@ pub fn codesd0(ram: &[u8], rom: &[u8], ps: u16, pc: u16, p: Prefixes, b: u8, i: 
             i,
         );
     }
-    match b {
-        0xd4 => after_ten(ram, rom, ps, pc, Convert::Cvtbd, i),
-        0xd5 => after_ten(ram, rom, ps, pc, Convert::Cvtdb, i),
-        0xd7 => trans(p, i),
-        _ => Decoded::Unknown { number: 3 },
+    if b < 0xd6 {
+        let group = if b == 0xd4 {
+            Convert::Cvtbd
+        } else {
+            Convert::Cvtdb
+        };
+        return after_ten(ram, rom, ps, pc, group, i);
     }
+    if b == 0xd7 {
+        let seg = p.seg;
+        let table = places::seg_or(seg, DS0);
+        return answers::transfers(Transfer::Trans { seg: table }, i);
+    }
+    Decoded::Unknown { number: 3 }
 }

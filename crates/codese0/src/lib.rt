@@ -18,12 +18,13 @@ fn loops(ram: &[u8], rom: &[u8], ps: u16, pc: u16, p: Prefixes, b: u8, i: u16) -
     ensures { λ r. ⌜ Names (bytesC0 p) b (codeByte (now (ram .entry)) (now (rom .entry)) ps pc) i r ⌝ }
 {
     let disp = fetch::code_short(ram, rom, ps, pc, i);
-    match b {
-        0xe0 => answers::tests(Conditional::Dbnzne { disp: disp }, i + 1),
-        0xe1 => answers::tests(Conditional::Dbnze { disp: disp }, i + 1),
-        0xe2 => answers::tests(Conditional::Dbnz { disp: disp }, i + 1),
-        _ => answers::tests(Conditional::Bcwz { disp: disp }, i + 1),
-    }
+    let group = match b {
+        0xe0 => Conditional::Dbnzne { disp: disp },
+        0xe1 => Conditional::Dbnze { disp: disp },
+        0xe2 => Conditional::Dbnz { disp: disp },
+        _ => Conditional::Bcwz { disp: disp },
+    };
+    answers::tests(group, i + 1)
 }
 
 // E4 to E7: a port whose number follows.
@@ -32,22 +33,18 @@ fn numbered_ports(ram: &[u8], rom: &[u8], ps: u16, pc: u16, p: Prefixes, b: u8, 
     ensures { λ r. ⌜ Names (bytesC0 p) b (codeByte (now (ram .entry)) (now (rom .entry)) ps pc) i r ⌝ }
 {
     let number = fetch::code_byte(ram, rom, ps, pc, i);
-    if b < 0xe6 {
-        return answers::ports(
-            Io::In {
-                word: (b - 0xe4) % 2 == 1,
-                port: Port::Numbered(number),
-            },
-            i + 1,
-        );
-    }
-    answers::ports(
+    let group = if b < 0xe6 {
+        Io::In {
+            word: (b - 0xe4) % 2 == 1,
+            port: Port::Numbered(number),
+        }
+    } else {
         Io::Out {
             word: (b - 0xe6) % 2 == 1,
             port: Port::Numbered(number),
-        },
-        i + 1,
-    )
+        }
+    };
+    answers::ports(group, i + 1)
 }
 
 fn branch_far(ram: &[u8], rom: &[u8], ps: u16, pc: u16, i: u16) -> Decoded
@@ -70,27 +67,20 @@ fn codese8(ram: &[u8], rom: &[u8], ps: u16, pc: u16, p: Prefixes, b: u8, i: u16)
     requires { ⌜ (0xe8 ≤ b) × ((b < 0xec) × (i ≤ 4)) ⌝ }
     ensures { λ r. ⌜ Names (bytesC0 p) b (codeByte (now (ram .entry)) (now (rom .entry)) ps pc) i r ⌝ }
 {
-    match b {
-        0xe8 => answers::branches(
-            Branch::CallNear {
-                disp: fetch::code_word(ram, rom, ps, pc, i),
-            },
-            i + 2,
-        ),
-        0xe9 => answers::branches(
-            Branch::BrNear {
-                disp: fetch::code_word(ram, rom, ps, pc, i),
-            },
-            i + 2,
-        ),
-        0xea => branch_far(ram, rom, ps, pc, i),
-        _ => answers::branches(
-            Branch::BrShort {
-                disp: fetch::code_short(ram, rom, ps, pc, i),
-            },
-            i + 1,
-        ),
+    if b == 0xea {
+        return branch_far(ram, rom, ps, pc, i);
     }
+    if b == 0xeb {
+        let disp = fetch::code_short(ram, rom, ps, pc, i);
+        return answers::branches(Branch::BrShort { disp: disp }, i + 1);
+    }
+    let disp = fetch::code_word(ram, rom, ps, pc, i);
+    let group = if b == 0xe8 {
+        Branch::CallNear { disp: disp }
+    } else {
+        Branch::BrNear { disp: disp }
+    };
+    answers::branches(group, i + 2)
 }
 
 pub fn codese0(ram: &[u8], rom: &[u8], ps: u16, pc: u16, p: Prefixes, b: u8, i: u16) -> Decoded
@@ -106,20 +96,16 @@ pub fn codese0(ram: &[u8], rom: &[u8], ps: u16, pc: u16, p: Prefixes, b: u8, i: 
     if b < 0xec {
         return codese8(ram, rom, ps, pc, p, b, i);
     }
-    if b < 0xee {
-        return answers::ports(
-            Io::In {
-                word: (b - 0xec) % 2 == 1,
-                port: Port::InDw,
-            },
-            i,
-        );
-    }
-    answers::ports(
+    let group = if b < 0xee {
+        Io::In {
+            word: (b - 0xec) % 2 == 1,
+            port: Port::InDw,
+        }
+    } else {
         Io::Out {
             word: (b - 0xee) % 2 == 1,
             port: Port::InDw,
-        },
-        i,
-    )
+        }
+    };
+    answers::ports(group, i)
 }

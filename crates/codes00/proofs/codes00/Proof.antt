@@ -1,4 +1,5 @@
-use Rattle.codes00.proofs.Laws.{at-acc, at-places}
+use native.Mathlib.Omega.{arith}
+use Rattle.codes00.proofs.Laws.{at-acc, at-places, at-prefix, at-segment}
 use borrow.Author.Needs.{needs}
 use Rattle.codes00.proofs.codes00.Statement.{statement}
 use Rattle.codes00.proofs.codes00.Tie as tie
@@ -8,6 +9,12 @@ returns c = at-places _ (search needs) (search needs) (c .before .operation-at .
 
 returns-2 : tie.Need-returns-2
 returns-2 c = at-acc _ (search needs) (search needs) (search needs) (c .before .operation-at2 .ensures) (c .with-acc .ensures)
+
+returns-4 : tie.Need-returns-4
+returns-4 c = at-segment _ (search needs) (omega arith) (search needs) (c .stacks .ensures)
+
+returns-5 : tie.Need-returns-5
+returns-5 c = at-prefix _ (search needs) (omega arith) (search needs)
 
 pub codes00-spec : {M : Type 1} → statement M
 codes00-spec =
@@ -23,4 +30,5 @@ codes00-spec =
     (λ c κs. search needs)
     (λ c. search needs)
     (λ c κs. search needs)
-    (λ c. search needs))
+    returns-4
+    returns-5)

@@ -4,10 +4,10 @@ use Rattle.codes40.proofs.chkind.Statement.{statement}
 use Rattle.codes40.proofs.chkind.Tie as tie
 
 returns : tie.Need-returns
-returns c = with-memory (c .before .before .before .before .operands .ensures) _ _ (search needs) (c .interrupts .ensures)
+returns c = search (not-memory, needs)
 
 returns-2 : tie.Need-returns-2
-returns-2 c = search (not-memory, needs)
+returns-2 c = with-memory (c .before .before .before .before .operands .ensures) _ _ (search needs) (c .interrupts .ensures)
 
 pub chkind-spec : {M : Type 1} → statement M
 chkind-spec =
@@ -15,7 +15,7 @@ chkind-spec =
     (tie.spec
     (λ c κs. search needs)
     (λ c. search needs)
-    (λ c κs. search needs)
     (λ c. search needs)
     returns
+    (λ c κs. search needs)
     returns-2)

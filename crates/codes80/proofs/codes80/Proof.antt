@@ -9,13 +9,13 @@ returns : tie.Need-returns
 returns c = at-row 0x80 refl (search needs) (search needs) (c .with-immediate .ensures)
 
 returns-3 : tie.Need-returns-3
-returns-3 c = at-one 0x8c refl refl (c .before .match .keys1) (c .from-segment .ensures)
+returns-3 c = at-one 0x8c refl refl (c .before .if3 .taken) (c .from-segment .ensures)
 
 returns-4 : tie.Need-returns-4
-returns-4 c = at-one 0x8d refl refl (c .before .match .keys2) (c .ldea .ensures)
+returns-4 c = at-one 0x8d refl refl (c .before .if4 .taken) (c .ldea .ensures)
 
 returns-5 : tie.Need-returns-5
-returns-5 c = at-one 0x8e refl refl (c .before .match .keys3) (c .to-segment .ensures)
+returns-5 c = at-one 0x8e refl refl (c .before .if5 .taken) (c .to-segment .ensures)
 
 returns-6 : tie.Need-returns-6
 returns-6 c = at-row 0x8f refl (omega arith) (omega arith) (c .pop .ensures)
@@ -30,10 +30,10 @@ codes80-spec =
     (λ c κs. search needs)
     (λ c. search needs)
     (λ c κs. search needs)
-    (λ c κs. search needs)
-    (λ c κs. search needs)
-    (λ c κs. search needs)
     returns-3
+    (λ c κs. search needs)
     returns-4
+    (λ c κs. search needs)
     returns-5
+    (λ c κs. search needs)
     returns-6)

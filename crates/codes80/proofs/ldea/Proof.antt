@@ -4,10 +4,10 @@ use Rattle.codes80.proofs.ldea.Statement.{statement}
 use Rattle.codes80.proofs.ldea.Tie as tie
 
 returns : tie.Need-returns
-returns c = with-memory (c .before .before .before .before .operands .ensures) _ _ (search needs) (c .transfers .ensures)
+returns c = search (not-memory, needs)
 
 returns-2 : tie.Need-returns-2
-returns-2 c = search (not-memory, needs)
+returns-2 c = with-memory (c .before .before .before .before .operands .ensures) _ _ (search needs) (c .transfers .ensures)
 
 pub ldea-spec : {M : Type 1} → statement M
 ldea-spec =
@@ -15,7 +15,7 @@ ldea-spec =
     (tie.spec
     (λ c κs. search needs)
     (λ c. search needs)
-    (λ c κs. search needs)
     (λ c. search needs)
     returns
+    (λ c κs. search needs)
     returns-2)

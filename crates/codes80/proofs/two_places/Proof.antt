@@ -1,7 +1,9 @@
+use native.Mathlib.Omega.{arith}
 use Rattle.answers.proofs.CodeLaws.{at-row}
 use Rattle.answers.proofs.FollowLaws.{decodes-known}
 use mathlib.Core.Path.{refl}
 use Rattle.places.proofs.OperandsLaws.{with-place}
+use mathlib.Core.Logic.{⊎-elim}
 use borrow.Author.Needs.{needs}
 use Rattle.codes80.proofs.two_places.Statement.{statement}
 use Rattle.codes80.proofs.two_places.Tie as tie
@@ -10,13 +12,7 @@ returns : tie.Need-returns
 returns c = at-row 0x84 refl (search needs) (search needs) (with-place (c .before .before .operands .ensures) _ (decodes-known (c .calculates .ensures)))
 
 returns-2 : tie.Need-returns-2
-returns-2 c = at-row 0x86 refl (search needs) (search needs) (with-place (c .before .before .before .operands .ensures) _ (decodes-known (c .transfers .ensures)))
-
-returns-3 : tie.Need-returns-3
-returns-3 c = at-row 0x88 refl (search needs) (search needs) (with-place (c .before .before .before .before .operands .ensures) _ (decodes-known (c .transfers2 .ensures)))
-
-returns-4 : tie.Need-returns-4
-returns-4 c = at-row 0x8a refl (search needs) (search needs) (with-place (c .before .before .before .before .operands .ensures) _ (decodes-known (c .transfers3 .ensures)))
+returns-2 c = ⊎-elim (λ w. at-row 0x86 refl (omega arith) (omega arith) (with-place (c .before .before .before .operands .ensures) _ (decodes-known (rw (w .1) at (c .transfers .ensures))))) (⊎-elim (λ w. at-row 0x88 refl (omega arith) (omega arith) (with-place (c .before .before .before .operands .ensures) _ (decodes-known (rw (w .1) at (c .transfers .ensures))))) (λ w. at-row 0x8a refl (omega arith) (omega arith) (with-place (c .before .before .before .operands .ensures) _ (decodes-known (rw (w .1) at (c .transfers .ensures)))))) (c .before .match .came)
 
 pub two-places-spec : {M : Type 1} → statement M
 two-places-spec =
@@ -26,9 +22,7 @@ two-places-spec =
     (λ c. search needs)
     (λ c κs. search needs)
     returns
+    (λ c. search needs)
+    (λ c. search needs)
     (λ c κs. search needs)
-    returns-2
-    (λ c κs. search needs)
-    returns-3
-    (λ c κs. search needs)
-    returns-4)
+    returns-2)

@@ -4,10 +4,10 @@ use Rattle.codesc0.proofs.load_pointer.Statement.{statement}
 use Rattle.codesc0.proofs.load_pointer.Tie as tie
 
 returns : tie.Need-returns
-returns c = with-memory (c .before .before .before .before .operands .ensures) _ _ (search needs) (c .transfers .ensures)
+returns c = search (not-memory, needs)
 
 returns-2 : tie.Need-returns-2
-returns-2 c = search (not-memory, needs)
+returns-2 c = with-memory (c .before .before .before .before .operands .ensures) _ _ (search needs) (c .transfers .ensures)
 
 pub load-pointer-spec : {M : Type 1} → statement M
 load-pointer-spec =
@@ -15,7 +15,7 @@ load-pointer-spec =
     (tie.spec
     (λ c κs. search needs)
     (λ c. search needs)
-    (λ c κs. search needs)
     (λ c. search needs)
     returns
+    (λ c κs. search needs)
     returns-2)

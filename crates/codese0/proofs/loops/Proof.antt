@@ -1,37 +1,14 @@
 use native.Mathlib.Omega.{arith}
-use Rattle.answers.proofs.CodeLaws.{at-one, at-row}
+use Rattle.answers.proofs.CodeLaws.{at-one}
 use mathlib.Core.Path.{refl}
 use Rattle.answers.proofs.FollowLaws.{with-short}
+use mathlib.Core.Logic.{⊎-elim}
 use borrow.Author.Needs.{needs}
 use Rattle.codese0.proofs.loops.Statement.{statement}
 use Rattle.codese0.proofs.loops.Tie as tie
 
 returns : tie.Need-returns
-returns c = at-one 0xe0 refl refl (c .before .match .keys1) (with-short _ (c .before .before .code-short .ensures) (c .tests .ensures))
-
-returns-2 : tie.Need-returns-2
-returns-2 c = at-one 0xe1 refl refl (c .before .match .keys2) (with-short _ (c .before .before .code-short .ensures) (c .tests2 .ensures))
-
-returns-3 : tie.Need-returns-3
-returns-3 c = at-one 0xe2 refl refl (c .before .match .keys3) (with-short _ (c .before .before .code-short .ensures) (c .tests3 .ensures))
-
-returns-4 : tie.Need-returns-4
-returns-4 c = at-row 0xe3 refl (omega arith) (omega arith) (with-short _ (c .before .before .code-short .ensures) (c .tests4 .ensures))
+returns c = ⊎-elim (λ w. at-one 0xe0 refl refl (w .0 .keys1) (with-short _ (c .before .before .code-short .ensures) (rw (w .1) at (c .tests .ensures)))) (⊎-elim (λ w. at-one 0xe1 refl refl (w .0 .keys2) (with-short _ (c .before .before .code-short .ensures) (rw (w .1) at (c .tests .ensures)))) (⊎-elim (λ w. at-one 0xe2 refl refl (w .0 .keys3) (with-short _ (c .before .before .code-short .ensures) (rw (w .1) at (c .tests .ensures)))) (λ w. at-one 0xe3 refl refl (omega arith) (with-short _ (c .before .before .code-short .ensures) (rw (w .1) at (c .tests .ensures)))))) (c .before .match .came)
 
 pub loops-spec : {M : Type 1} → statement M
-loops-spec =
-    tie.close
-    (tie.spec
-    (λ c κs. search needs)
-    (λ c. search needs)
-    (λ c κs. search needs)
-    (λ c. search needs)
-    (λ c κs. search needs)
-    (λ c. search needs)
-    (λ c κs. search needs)
-    (λ c. search needs)
-    (λ c κs. search needs)
-    returns
-    returns-2
-    returns-3
-    returns-4)
+loops-spec = tie.close (tie.spec (λ c κs. search needs) (λ c. search needs) (λ c κs. search needs) returns)

@@ -1,45 +1,38 @@
-use mathlib.Core.List.{[], _∷_}
+use mathlib.Core.List.{[]}
+use mathlib.Core.Logic.{⊎-elim}
+use mathlib.Core.Path.{refl}
+use native.Mathlib.Omega.{arith}
 use Rattle.answers.proofs.CodeLaws.{at-one, at-rest}
 use Rattle.places.proofs.OperandsLaws.{by-field, field-below, of-place}
 use Rattle.sheet.specs.FirstByte.{groupF6}
 use Rattle.codesf0.proofs.Laws.{of-immediate}
-use mathlib.Core.Path.{refl}
-use Prim.Native.Nat.{zero-le}
 use borrow.Author.Needs.{needs}
 use Rattle.codesf0.proofs.group_f6.Statement.{statement}
 use Rattle.codesf0.proofs.group_f6.Tie as tie
 
 returns : tie.Need-returns
 unfolding groupF6
-returns c = by-field (c .before .before .before .operands .ensures) _ (at-one 0 refl refl (c .before .before .match .keys1) (of-immediate (c .before .before .before .operands .ensures) _ _ (c .before .code-immediate .ensures) (c .calculates .ensures)))
+returns c = by-field (c .before .before .before .operands .ensures) _ (at-one 0 refl refl (c .before .before .if1 .taken) (of-immediate (c .before .before .before .operands .ensures) _ _ (c .before .code-immediate .ensures) (c .calculates .ensures)))
 
 returns-2 : tie.Need-returns-2
 unfolding groupF6
-returns-2 c = by-field (c .before .before .operands .ensures) _ (at-one 2 refl refl (c .before .match .keys2) (of-place (c .before .before .operands .ensures) _ (c .calculates2 .ensures)))
+returns-2 c = by-field (c .before .before .operands .ensures) _ (at-rest 1 1 [] refl tt (omega arith) (omega arith))
 
 returns-3 : tie.Need-returns-3
 unfolding groupF6
-returns-3 c = by-field (c .before .before .operands .ensures) _ (at-one 3 refl refl (c .before .match .keys3) (of-place (c .before .before .operands .ensures) _ (c .calculates3 .ensures)))
+returns-3 c =
+    ⊎-elim (λ w. by-field (c .before .before .before .before .before .operands .ensures) _ (at-one 2 refl refl (w .0 .taken) (of-place (c .before .before .before .before .before .operands .ensures) _ (rw (w .1) at (c .calculates2 .ensures)))))
+    (λ w. by-field (c .before .before .before .before .before .operands .ensures) _ (at-one 3 refl refl (omega arith) (of-place (c .before .before .before .before .before .operands .ensures) _ (rw (w .1) at (c .calculates2 .ensures)))))
+    (c .before .if4 .came)
 
 returns-4 : tie.Need-returns-4
 unfolding groupF6
-returns-4 c = by-field (c .before .before .operands .ensures) _ (at-one 4 refl refl (c .before .match .keys4) (of-place (c .before .before .operands .ensures) _ (c .multiplies .ensures)))
-
-returns-5 : tie.Need-returns-5
-unfolding groupF6
-returns-5 c = by-field (c .before .before .operands .ensures) _ (at-one 5 refl refl (c .before .match .keys5) (of-place (c .before .before .operands .ensures) _ (c .multiplies2 .ensures)))
-
-returns-6 : tie.Need-returns-6
-unfolding groupF6
-returns-6 c = by-field (c .before .before .operands .ensures) _ (at-one 6 refl refl (c .before .match .keys6) (of-place (c .before .before .operands .ensures) _ (c .multiplies3 .ensures)))
-
-returns-7 : tie.Need-returns-7
-unfolding groupF6
-returns-7 c = by-field (c .before .before .operands .ensures) _ (at-one 7 refl refl (c .before .match .keys7) (of-place (c .before .before .operands .ensures) _ (c .multiplies4 .ensures)))
-
-returns-8 : tie.Need-returns-8
-unfolding groupF6
-returns-8 c = by-field (c .before .operands .ensures) _ (at-rest 0 8 ((0 ∷ []) ∷ (2 ∷ []) ∷ (3 ∷ []) ∷ (4 ∷ []) ∷ (5 ∷ []) ∷ (6 ∷ []) ∷ (7 ∷ []) ∷ []) refl (c .match .rest) zero-le (field-below (c .before .operands .ensures)))
+returns-4 c =
+    ⊎-elim (λ w. by-field (c .before .before .before .before .before .operands .ensures) _ (at-one 4 refl refl (w .0 .keys1) (of-place (c .before .before .before .before .before .operands .ensures) _ (rw (w .1) at (c .multiplies .ensures)))))
+    (⊎-elim (λ w. by-field (c .before .before .before .before .before .operands .ensures) _ (at-one 5 refl refl (w .0 .keys2) (of-place (c .before .before .before .before .before .operands .ensures) _ (rw (w .1) at (c .multiplies .ensures)))))
+    (⊎-elim (λ w. by-field (c .before .before .before .before .before .operands .ensures) _ (at-one 6 refl refl (w .0 .keys3) (of-place (c .before .before .before .before .before .operands .ensures) _ (rw (w .1) at (c .multiplies .ensures)))))
+    (λ w. by-field (c .before .before .before .before .before .operands .ensures) _ (at-one 7 refl refl (omega (arith, field-below (c .before .before .before .before .before .operands .ensures))) (of-place (c .before .before .before .before .before .operands .ensures) _ (rw (w .1) at (c .multiplies .ensures)))))))
+    (c .before .match .came)
 
 pub group-f6-spec : {M : Type 1} → statement M
 group-f6-spec =
@@ -48,17 +41,9 @@ group-f6-spec =
     (λ c κs. search needs)
     (λ c κs. search needs)
     (λ c κs. search needs)
-    (λ c κs. search needs)
-    (λ c κs. search needs)
-    (λ c κs. search needs)
-    (λ c κs. search needs)
-    (λ c κs. search needs)
-    (λ c κs. search needs)
     returns
     returns-2
+    (λ c κs. search needs)
     returns-3
-    returns-4
-    returns-5
-    returns-6
-    returns-7
-    returns-8)
+    (λ c κs. search needs)
+    returns-4)
