@@ -1,7 +1,7 @@
 -- What each instruction comes to, from what its parts come to.
 use Prim.Native.Nat.{ℕ, _+_, _*_, _/_, _%_}
 use mathlib.Core.Path.{_≡_, refl}
-use mathlib.Core.Bool.{Bool, false}
+use mathlib.Core.Bool.{Bool, true, false}
 use mathlib.Core.List.{List}
 use lib.ListN.{getD, set}
 use Rattle.sheet.specs.declared.Flagged.{Flagged}

@@ -1,4 +1,4 @@
-use Rattle.sheet.specs.Execute.{untrapped}
+use Rattle.sheet.specs.Traps.{untrapped}
 use Rattle.sheet.specs.Interrupts.{interrupts}
 use Rattle.sheet.proofs.Lifted.{memory-known}
 use borrow.Author.Needs.{needs}
