@@ -36,7 +36,6 @@ module _ (f g ram ram′ rom : List ℕ) where
   unfolding callTo
   call-held-is a v n m p q = memory-seq _ {t = 2} {u = 2} p (memory-last _ q (file-set PC v))
 
-
   pub call-far-is : (ps pc : ℕ) (h : List ℕ) (n : Bus) → OnMemory Unit pushPsPc f ram rom tt h ram′ n 4 → OnFile Unit (jumpFar ps pc) h tt g → OnMemory Unit (callFar ps pc) f ram rom tt g ram′ n 4
   unfolding callFar
   call-far-is ps pc h n p k = memory-last _ p k

@@ -34,7 +34,6 @@ module _ (f g ram ram′ rom : List ℕ) where
   unfolding pushPlace
   push-held-is a v n m p q = memory-seq _ {t = 2} {u = 2} p q
 
-
   pub push-segment-is : (seg v : ℕ) (n : Bus) → v ≡ fileOf f (segment seg) → OnMemory Unit (push v) f ram rom tt g ram′ n 2 → OnMemory Unit (pushSegment seg) f ram rom tt g ram′ n 2
   unfolding pushSegment
   push-segment-is seg v n e h = memory-free _ file-registers (rw (← e) h)
