@@ -9,7 +9,6 @@ use Rattle.sheet.specs.declared.Progress.{Progress}
 use Rattle.sheet.specs.declared.Multiply.{Multiply}
 use Rattle.sheet.specs.declared.Interrupt.{Interrupt}
 use Rattle.sheet.specs.declared.Primitive.{Primitive}
-use Rattle.sheet.specs.declared.Primitive.the-variants as primitives
 use Rattle.sheet.specs.declared.Repeat.{Repeat}
 use Rattle.sheet.specs.declared.Io.{Io}
 use Rattle.sheet.specs.declared.Control.{Control}
@@ -29,9 +28,6 @@ use Rattle.sheet.specs.Execute.{multiply, computing, moving, operation}
 use Rattle.sheet.specs.Contract.{OnMemory}
 use Rattle.sheet.proofs.Rules.{seq-last, seq-free, seq-stops, ends-pure}
 use Rattle.ports.specs.Accesses.{OnPorts}
-use Rattle.ports.proofs.Told.{ports-end}
-use Rattle.do_block.specs.declared.Portless.{Portless}
-use Rattle.do_block.specs.Portless.{primitiveOf}
 use Rattle.do_control.specs.Controls as do-control
 use Rattle.ports.specs.declared.Ported.{Ported}
 use Rattle.execute.specs.declared.Performed.{Performed}
@@ -80,19 +76,6 @@ control-is t f g ram rom tape log q halts h = record {
   stop = λ z. absurd (z refl);
   same = λ z. absurd (z refl);
 }
-
--- ---- blocks
-
-module _ (k : Primitive) (w : Bool) (seg : ℕ) (r : Repeat) (start : ℕ) (f g ram ram′ rom tape log log′ : List ℕ) (q q′ : Progress) (number : ℕ) (n : Bus) where
-  pub no-port : (i : Portless) (x : Ported) → k ≡ primitiveOf i → OnMemory Unit (block (primitiveOf i) w seg r start) f ram rom tt g ram′ n 4 → x ≡ record { number = 0; progress = q; bus = n }
-      → OnPorts (block k w seg r start) f ram rom tape log q (x .number) g ram′ log (x .progress) (x .bus) 4
-  no-port i x e h u = rw (e, u) (ports-end _ f ram rom tape log q g ram′ log q n 4 (h .most) (λ b. h .at (stateOf f b q) tape log))
-
-  pub at-inm : k ≡ primitives.Inm → OnPorts (block primitives.Inm w seg r start) f ram rom tape log q number g ram′ log′ q′ n 4 → OnPorts (block k w seg r start) f ram rom tape log q number g ram′ log′ q′ n 4
-  at-inm e h = rw e h
-
-  pub at-outm : k ≡ primitives.Outm → OnPorts (block primitives.Outm w seg r start) f ram rom tape log q number g ram′ log′ q′ n 4 → OnPorts (block k w seg r start) f ram rom tape log q number g ram′ log′ q′ n 4
-  at-outm e h = rw e h
 
 -- ---- which tree an instruction is
 

@@ -1,95 +1,12 @@
 // Every instruction's operation.
-use do_block::Portless;
-use do_port_block::Streaming;
 use ports::Ported;
 use sheet::Bus;
 use sheet::Instr;
-use sheet::Primitive;
 use sheet::Progress;
-use sheet::Repeat;
 ghost use mathlib.Core.Path.{_≡_};
 ghost use mathlib.Core.Bool.{false};
-ghost use Rattle.sheet.specs.Block as tree;
 ghost use Rattle.sheet.specs.Execute.{operation};
-ghost use Rattle.ports.specs.Accesses.{OnPorts};
 ghost use Rattle.execute.specs.Performs.{Performs};
-
-// A block instruction that used no port.
-fn portless(q: Progress, b: Bus) -> Ported
-    ensures { λ r. ⌜ r ≡ record { number = 0; progress = q; bus = b } ⌝ }
-{
-    Ported {
-        number: 0,
-        progress: q,
-        bus: b,
-    }
-}
-
-// A block instruction, with or without ports.
-fn blocks(
-    file: &mut [u16; 14],
-    ram: &mut [u8],
-    rom: &[u8],
-    tape: &[u8],
-    log: &mut [u8],
-    q: Progress,
-    primitive: Primitive,
-    word: bool,
-    seg: u8,
-    repeat: Repeat,
-    start: u16,
-) -> Ported
-    ensures { λ r. ⌜ OnPorts (tree.block primitive word seg repeat start) (now (file .entry)) (now (ram .entry)) (now (rom .entry)) (now (tape .entry)) (now (log .entry)) q (r .number) (now (file .exit)) (now (ram .exit)) (now (log .exit)) (r .progress) (r .bus) 4 ⌝ }
-{
-    match primitive {
-        Primitive::Movbk => portless(
-            q,
-            do_block::block(file, ram, rom, Portless::Movbk, word, seg, repeat, start),
-        ),
-        Primitive::Cmpbk => portless(
-            q,
-            do_block::block(file, ram, rom, Portless::Cmpbk, word, seg, repeat, start),
-        ),
-        Primitive::Cmpm => portless(
-            q,
-            do_block::block(file, ram, rom, Portless::Cmpm, word, seg, repeat, start),
-        ),
-        Primitive::Ldm => portless(
-            q,
-            do_block::block(file, ram, rom, Portless::Ldm, word, seg, repeat, start),
-        ),
-        Primitive::Stm => portless(
-            q,
-            do_block::block(file, ram, rom, Portless::Stm, word, seg, repeat, start),
-        ),
-        Primitive::Inm => do_port_block::stream(
-            file,
-            ram,
-            rom,
-            tape,
-            log,
-            q,
-            Streaming::Inm,
-            word,
-            seg,
-            repeat,
-            start,
-        ),
-        Primitive::Outm => do_port_block::stream(
-            file,
-            ram,
-            rom,
-            tape,
-            log,
-            q,
-            Streaming::Outm,
-            word,
-            seg,
-            repeat,
-            start,
-        ),
-    }
-}
 
 // What an instruction came to: the refusal's number, whether it took a trap itself, whether it halts, the places, the bus.
 pub struct Performed {
@@ -167,7 +84,7 @@ pub fn perform(
             seg,
             repeat,
         } => {
-            let r = blocks(
+            let r = do_blocks::block(
                 file,
                 ram,
                 rom,

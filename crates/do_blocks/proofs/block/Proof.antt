@@ -1,7 +1,7 @@
-use Rattle.execute.proofs.Laws.{at-inm, at-outm, no-port}
+use Rattle.do_blocks.proofs.Laws.{no-port, with-port}
 use borrow.Author.Needs.{needs}
-use Rattle.execute.proofs.blocks.Statement.{statement}
-use Rattle.execute.proofs.blocks.Tie as tie
+use Rattle.do_blocks.proofs.block.Statement.{statement}
+use Rattle.do_blocks.proofs.block.Tie as tie
 
 returns : tie.Need-returns
 returns c = search (no-port, needs)
@@ -19,13 +19,13 @@ returns-5 : tie.Need-returns-5
 returns-5 c = search (no-port, needs)
 
 returns-6 : tie.Need-returns-6
-returns-6 c = search (at-inm, needs)
+returns-6 c = search (with-port, needs)
 
 returns-7 : tie.Need-returns-7
-returns-7 c = search (at-outm, needs)
+returns-7 c = search (with-port, needs)
 
-pub blocks-spec : {M : Type 1} → statement M
-blocks-spec =
+pub block-spec : {M : Type 1} → statement M
+block-spec =
     tie.close
     (tie.spec
     (λ c. search needs)
