@@ -30,6 +30,7 @@ use Rattle.sheet.proofs.Rules.{seq-last, seq-free, seq-stops, ends-pure}
 use Rattle.ports.specs.Accesses.{OnPorts}
 use Rattle.do_control.specs.Controls as do-control
 use Rattle.ports.specs.declared.Ported.{Ported}
+use Rattle.traps.specs.declared.Worked.{Worked}
 use Rattle.execute.specs.declared.Performed.{Performed}
 use Rattle.execute.specs.Performs.{Performs}
 
@@ -121,9 +122,9 @@ module _ (o : Act Bool) (f g ram ram′ rom tape log : List ℕ) (q : Progress) 
       → Comes o f ram rom tape log q x g ram′ log
   at-quiet p n k e m h u = rw (e, u) (quiet-is p f g ram ram′ rom tape log q n k m h)
 
-  pub at-told : (p : Act Bool) (b : Bool) (n : Bus) (k : ℕ) → o ≡ p → k ≤ 1020 → OnMemory Bool p f ram rom b g ram′ n k → x ≡ handed 0 b false q n
+  pub at-told : (p : Act Bool) (y : Worked) (k : ℕ) → o ≡ p → k ≤ 1020 → OnMemory Bool p f ram rom (y .trapped) g ram′ (y .bus) k → x ≡ handed 0 (y .trapped) false q (y .bus)
       → Comes o f ram rom tape log q x g ram′ log
-  at-told p b n k e m h u = rw (e, u) (worked-is p f g ram ram′ rom tape log q b n k m h)
+  at-told p y k e m h u = rw (e, u) (worked-is p f g ram ram′ rom tape log q (y .trapped) (y .bus) k m h)
 
   pub at-through : (p : Act Unit) (r : Ported) (log′ : List ℕ) (k : ℕ) → o ≡ untrapped p → k ≤ 1020
       → OnPorts p f ram rom tape log q (r .number) g ram′ log′ (r .progress) (r .bus) k → x ≡ handed (r .number) false false (r .progress) (r .bus)

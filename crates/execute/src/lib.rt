@@ -3,6 +3,7 @@ use ports::Ported;
 use sheet::Bus;
 use sheet::Instr;
 use sheet::Progress;
+use traps::Worked;
 ghost use mathlib.Core.Path.{_≡_};
 ghost use mathlib.Core.Bool.{false};
 ghost use Rattle.sheet.specs.Execute.{operation};
@@ -18,12 +19,13 @@ pub struct Performed {
 }
 
 // One that says itself whether it took a trap.
-fn told(q: Progress, trapped: bool, b: Bus) -> Performed
-    ensures { λ r. ⌜ r ≡ record { number = 0; trapped = trapped; halts = false; progress = q; bus = b } ⌝ }
+fn told(q: Progress, w: Worked) -> Performed
+    ensures { λ r. ⌜ r ≡ record { number = 0; trapped = w .trapped; halts = false; progress = q; bus = w .bus } ⌝ }
 {
+    let b = w.bus;
     Performed {
         number: 0,
-        trapped,
+        trapped: w.trapped,
         halts: false,
         progress: q,
         bus: b,
@@ -34,7 +36,13 @@ fn told(q: Progress, trapped: bool, b: Bus) -> Performed
 fn quiet(q: Progress, b: Bus) -> Performed
     ensures { λ r. ⌜ r ≡ record { number = 0; trapped = false; halts = false; progress = q; bus = b } ⌝ }
 {
-    told(q, false, b)
+    told(
+        q,
+        Worked {
+            trapped: false,
+            bus: b,
+        },
+    )
 }
 
 // One that may have used a port.
@@ -68,16 +76,8 @@ pub fn perform(
     match i {
         Instr::Computes(t) => quiet(q, do_plain::compute(file, ram, rom, t)),
         Instr::Moves(t) => quiet(q, do_plain::moves(file, ram, rom, t)),
-        Instr::Multiplies(t) => {
-            let w = do_multiply::multiply(file, ram, rom, t);
-            let b = w.bus;
-            told(q, w.trapped, b)
-        }
-        Instr::Interrupts(t) => {
-            let w = do_interrupt::interrupt(file, ram, rom, t);
-            let b = w.bus;
-            told(q, w.trapped, b)
-        }
+        Instr::Multiplies(t) => told(q, do_multiply::multiply(file, ram, rom, t)),
+        Instr::Interrupts(t) => told(q, do_interrupt::interrupt(file, ram, rom, t)),
         Instr::Blocks {
             primitive,
             word,
