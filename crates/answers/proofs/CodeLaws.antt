@@ -2,7 +2,7 @@
 use Prim.Native.Nat.{ℕ, zero, suc, _+_, _-_, _≤_, _<_}
 use mathlib.Core.Path.{_≡_, refl, sym, _∙_}
 use mathlib.Core.Logic.{inl, inr}
-use mathlib.Core.Bool.{Bool, true, false, not, _&&_, _||_}
+use mathlib.Core.Bool.{Bool, true, false, not, _&&_, _||_, and-eq-true-iff}
 use mathlib.Core.List.{List, [], _∷_}
 use native.Mathlib.Omega.{arith}
 use lib.Dec.{eqb, leb, ltb}
@@ -27,11 +27,6 @@ starts n [] = false
 starts n (r ∷ t) = pick (eqb (r .from) n) true (leb (r .from + r .many) n && starts n t)
 
 -- two tests at once
-pub both : (a b : Bool) → (a && b) ≡ true → (a ≡ true) × (b ≡ true)
-both true b e = (refl, e)
-both false true e = (e, refl)
-both false false e = (e, e)
-
 pub not-both : (a b : Bool) → (a ≡ true → b ≡ true → ⊥) → (a && b) ≡ false
 not-both true true f = absurd (f refl refl)
 not-both true false f = refl
@@ -60,7 +55,7 @@ row-at (r ∷ t) n b e h k = go (eqb (r .from) n) refl e k (λ y l. row-at t n b
         → lookUp (r ∷ t) b ≡ pick c r (rowFrom n t) .reads (b - n)
     go true q e k others = let f : r .from ≡ n = eqb-true (r .from) n q in rw (f, le-leb n b h, lt-ltb b (n + r .many) k)
     go false q e k others =
-        let (x, y) = both (leb (r .from + r .many) n) (starts n t) e in
+        let (x, y) = and-eq-true-iff (leb (r .from + r .many) n) (starts n t) .0 e in
         let z = leb-true (r .from + r .many) n x in
         passed r t b (above-row r b (omega arith)) ∙ others y k
 
@@ -92,7 +87,7 @@ every f lo (suc n) = f lo && every f (suc lo) n
 every-at : (f : ℕ → Bool) (n lo b : ℕ) → every f lo n ≡ true → lo ≤ b → b < lo + n → f b ≡ true
 every-at f zero lo b e h k = absurd (omega arith)
 every-at f (suc n) lo b e h k =
-    let (x, y) = both (f lo) (every f (suc lo) n) e in
+    let (x, y) = and-eq-true-iff (f lo) (every f (suc lo) n) .0 e in
     go (eqb lo b) refl x (λ l. every-at f n (suc lo) b y l (omega arith))
   where
     go : (c : Bool) → eqb lo b ≡ c → f lo ≡ true → (suc lo ≤ b → f b ≡ true) → f b ≡ true

@@ -1,7 +1,7 @@
 -- The table of first bytes by its parts.
 use Prim.Native.Nat.{ℕ, _+_, _≤_, _<_}
 use mathlib.Core.Path.{_≡_, refl, _∙_}
-use mathlib.Core.Bool.{Bool, true, _&&_}
+use mathlib.Core.Bool.{Bool, true, _&&_, and-eq-true-iff}
 use mathlib.Core.List.{List, [], _∷_, _++_}
 use native.Mathlib.Omega.{arith}
 use lib.Dec.{leb}
@@ -14,7 +14,7 @@ use Rattle.sheet.proofs.TableLaws.{below}
 use Rattle.answers.specs.declared.Decoded.{Decoded}
 use Rattle.answers.specs.Answer.{Names}
 use Rattle.answers.proofs.DecodesLaws.{decodes-as}
-use Rattle.answers.proofs.CodeLaws.{both, above-row}
+use Rattle.answers.proofs.CodeLaws.{above-row}
 
 -- every row of a list starts at n or above
 abbrev above : ℕ → List Row → Bool
@@ -26,7 +26,7 @@ in-second : (s t : List Row) (n b : ℕ) → below n s ≡ true → n ≤ b → 
 unfolding lookUp
 in-second [] t n b e h = refl
 in-second (r ∷ s) t n b e h =
-    let (x, y) = both (leb (r .from + r .many) n) (below n s) e in
+    let (x, y) = and-eq-true-iff (leb (r .from + r .many) n) (below n s) .0 e in
     let z = leb-true (r .from + r .many) n x in
     rw (above-row r b (omega arith)) (in-second s t n b y h)
 
@@ -35,7 +35,7 @@ nowhere : (t : List Row) (n b : ℕ) → above n t ≡ true → b < n → lookUp
 unfolding lookUp
 nowhere [] n b e h = refl
 nowhere (r ∷ t) n b e h =
-    let (x, y) = both (leb n (r .from)) (above n t) e in
+    let (x, y) = and-eq-true-iff (leb n (r .from)) (above n t) .0 e in
     let z = leb-true n (r .from) x in
     rw (lt-leb (r .from) b (omega arith)) (nowhere t n b y h)
 

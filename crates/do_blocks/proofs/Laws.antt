@@ -12,7 +12,7 @@ use Rattle.sheet.specs.Block.{block}
 use Rattle.sheet.specs.Contract.{OnMemory}
 use Rattle.ports.specs.declared.Ported.{Ported}
 use Rattle.ports.specs.Accesses.{OnPorts}
-use Rattle.ports.proofs.Told.{ports-end}
+use Rattle.ports.proofs.Told.{ports-end, ports-known}
 use Rattle.do_block.specs.declared.Portless.{Portless}
 use Rattle.do_block.specs.Portless.{primitiveOf}
 
@@ -22,4 +22,4 @@ module _ (k : Primitive) (w : Bool) (seg : ℕ) (r : Repeat) (start : ℕ) (f g 
   no-port i x e h u = rw (e, u) (ports-end _ f ram rom tape log q g ram′ log q n 4 (h .most) (λ b. h .at (stateOf f b q) tape log))
 
   pub with-port : (j : Primitive) → k ≡ j → OnPorts (block j w seg r start) f ram rom tape log q number g ram′ log′ q′ n 4 → OnPorts (block k w seg r start) f ram rom tape log q number g ram′ log′ q′ n 4
-  with-port j e h = rw e h
+  with-port j = ports-known (λ i. block i w seg r start)

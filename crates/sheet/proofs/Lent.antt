@@ -59,7 +59,7 @@ writeLog-length log b at h =
     let t = length-take-le at log (omega arith) in
     simp (length-append, length-drop, t) (omega arith)
 
-lent-refl : (w : World) → Lent w w
+pub lent-refl : (w : World) → Lent w w
 lent-refl w = record { ram-long = refl; rom-same = refl; tape-same = refl; log-long = refl }
 
 lent-same : {w v : World} {s : State} → Lent w v → Lent w (withState v s)

@@ -1,7 +1,7 @@
 -- What an accepted call says of the world that it began in, and what it leaves.
 use Prim.Native.Nat.{ℕ, _+_}
 use mathlib.Core.Path.{_≡_, refl}
-use mathlib.Core.Bool.{Bool, true, false, not, _&&_}
+use mathlib.Core.Bool.{Bool, true, false, not, _&&_, and-eq-true-iff}
 use mathlib.Core.List.{List}
 use native.Mathlib.Nat.{min-le-right}
 use native.Mathlib.Omega.{arith}
@@ -20,7 +20,7 @@ use Rattle.sheet.specs.Step.{fits, sound, refusal, source, stepping, cou
 use Rattle.sheet.proofs.Lent.{Leaves, leaves, Sound, Good, stays-good}
 
 -- an outcome that is refused is not done
-no-done : {n : ℕ} {s t : List Event} {v : World} → _≡_ {A = Outcome Unit} (refused n s) (done tt v t) → ⊥
+pub no-done : {n : ℕ} {s t : List Event} {v : World} → _≡_ {A = Outcome Unit} (refused n s) (done tt v t) → ⊥
 no-done e = let z : _≡_ {A = ℕ} 0 1 = cc in omega arith
 
 -- ---- what was accepted
@@ -66,21 +66,16 @@ enters u vector maskable w v t e = go (fits w) (sound w) (maskable && not (flagO
 
 -- ---- what is left
 
-both : (a b : Bool) → (a && b) ≡ true → (a ≡ true) × (b ≡ true)
-both true b e = (refl, e)
-both false true e = (e, refl)
-both false false e = (e, e)
-
 -- number 2's test, as a record
 pub sound-is : (w : World) → length (w .state .file) ≡ 14 → sound w ≡ true → Sound w
 unfolding sound
 sound-is w n e =
-    let (a, e₁) = both (fixedOf (pswOf (w .state))) _ e in
-    let (b, e₂) = both (leb (w .state .tape) (length (w .tape))) _ e₁ in
-    let (c, d) = both (leb (w .state .log) (length (w .log))) _ e₂ in
+    let (a, e₁) = and-eq-true-iff (fixedOf (pswOf (w .state))) _ .0 e in
+    let (b, e₂) = and-eq-true-iff (leb (w .state .tape) (length (w .tape))) _ .0 e₁ in
+    let (c, d) = and-eq-true-iff (leb (w .state .log) (length (w .log))) _ .0 e₂ in
     record { whole = n; fixed = a; tape-in = leb-true _ _ b; log-in = leb-true _ _ c; count-in = leb-true _ _ d }
 
-counted-sound : (w : World) → Sound w → Sound (counted w)
+pub counted-sound : (w : World) → Sound w → Sound (counted w)
 unfolding counted
 counted-sound w s = record { whole = s .whole; fixed = s .fixed; tape-in = s .tape-in; log-in = s .log-in; count-in = min-le-right (w .state .count + 1) (rule .ceiling) }
 

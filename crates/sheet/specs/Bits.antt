@@ -8,7 +8,7 @@ use Rattle.sheet.specs.declared.Spot.{Spot}
 use Rattle.sheet.specs.declared.Amount.{Amount}
 use Rattle.sheet.specs.Width.{pick}
 use Rattle.sheet.specs.Psw.{unknown, becomes, Column, columns, bit, at}
-use Rattle.sheet.specs.Act.{Act, _>>=_, _>>_, affect}
+use Rattle.sheet.specs.Act.{Act, _>>=_, affect}
 use Rattle.sheet.specs.Operand.{locate, fetch, deposit, amountOf}
 use Rattle.sheet.specs.Fields.{replaced}
 

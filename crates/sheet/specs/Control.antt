@@ -3,7 +3,7 @@ use mathlib.Core.Bool.{true, false, not}
 use Rattle.sheet.specs.declared.Control.{Control}
 use Rattle.sheet.specs.declared.Control.the-variants.{Nop, Halt, Di, Ei, ClrCy, SetCy, NotCy, ClrDir, SetDir}
 use Rattle.sheet.specs.Psw.{CY, IE, DIR}
-use Rattle.sheet.specs.Act.{Act, pure, _>>=_, _>>_, flag, setFlag, halted}
+use Rattle.sheet.specs.Act.{Act, pure, _>>=_, flag, setFlag, halted}
 
 unfoldable pub control : Control → Act Unit
 control Nop = pure tt

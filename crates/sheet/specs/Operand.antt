@@ -18,7 +18,7 @@ use Rattle.sheet.specs.declared.Amount.{Amount}
 use Rattle.sheet.specs.declared.Amount.the-variants.{InCl, Given}
 use Rattle.sheet.specs.Width.{add16}
 use Rattle.sheet.specs.Registers.{BW, BP, IX, IY, CL, File, segment, inSs, inDs0, readReg, regIndex, regWord}
-use Rattle.sheet.specs.Act.{Act, pure, _>>=_, _>>_, registers, _≔_, peek, poke}
+use Rattle.sheet.specs.Act.{Act, pure, _>>=_, registers, _≔_, peek, poke}
 
 -- ---- the eight address forms
 

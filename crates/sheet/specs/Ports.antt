@@ -5,7 +5,7 @@ use Rattle.sheet.specs.declared.Port.the-variants.{InDw, Numbered}
 use Rattle.sheet.specs.declared.Io.{Io}
 use Rattle.sheet.specs.declared.Io.the-variants.{In, Out}
 use Rattle.sheet.specs.Registers.{AW, DW}
-use Rattle.sheet.specs.Act.{Act, pure, _>>=_, _>>_, registers, inp, out}
+use Rattle.sheet.specs.Act.{Act, pure, _>>=_, registers, inp, out}
 use Rattle.sheet.specs.Operand.{regValue, setReg}
 
 unfoldable pub portNumber : Port → Act ℕ

@@ -10,7 +10,7 @@ use Rattle.sheet.specs.declared.Place.{Place}
 use Rattle.sheet.specs.declared.Spot.{Spot}
 use Rattle.sheet.specs.Width.{pick, halfOf, wrapOf, signOf, odd}
 use Rattle.sheet.specs.Psw.{CY, bit, Effect, blank, unknown, becomes, columns}
-use Rattle.sheet.specs.Act.{Act, pure, _>>=_, _>>_, flag}
+use Rattle.sheet.specs.Act.{Act, pure, _>>=_, flag}
 use Rattle.sheet.specs.Operand.{locate, fetch, deposit, amountOf}
 use Rattle.sheet.specs.Arithmetic.{Result, resulting, finish}
 

@@ -10,7 +10,6 @@ pub mod RepeatOnce
 pub mod RepeatExample
 pub mod RepeatWrong
 pub mod RepeatCode
-pub mod RepeatCalls
 pub mod RepeatEnds
 pub mod RepeatSmall
 pub mod BoundsRules

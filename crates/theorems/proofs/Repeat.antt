@@ -19,7 +19,7 @@ use Rattle.sheet.specs.FirstByte.{instruction}
 use Rattle.sheet.specs.Step as sheet
 use Rattle.sheet.specs.Step.{fits, sound, refusal, codeAt, source, awake, stepBy, step, interrupt}
 use Rattle.sheet.proofs.ReadingLaws.{scan-rests}
-use Rattle.sheet.proofs.Lent.{Lent, Sound, Good}
+use Rattle.sheet.proofs.Lent.{Lent, Sound, Good, lent-refl}
 use Rattle.sheet.proofs.StepLaws.{sound-is, step-leaves, interrupt-leaves}
 use Rattle.engine.proofs.RunLaws.{sound-so, fits-so}
 use Rattle.theorems.proofs.BoundsStep.{step-is}
@@ -67,9 +67,6 @@ pub turned : (w : World) (i : Block) {file ram : List ℕ} {events : List Event}
 turned w i r e made = step-is w _ (i .size) (r .fit, r .good) (r .up) e ∙ made .ran .is
 
 -- ---- calls keep what is lent, and a sound state
-
-lent-refl : (w : World) → Lent w w
-lent-refl w = record { ram-long = refl; rom-same = refl; tape-same = refl; log-long = refl }
 
 lent-then : {w v u : World} → Lent w v → Lent v u → Lent w u
 lent-then x y = record {

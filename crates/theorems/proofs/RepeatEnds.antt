@@ -4,19 +4,17 @@ use mathlib.Core.Path.{_≡_, sym, subst}
 use mathlib.Core.Bool.{Bool, true, false}
 use mathlib.Core.List.{List}
 use native.Mathlib.Decide.{decLt, ℕ-discrete}
-use native.Mathlib.Nat.{min-le-right}
 use native.Mathlib.Omega.{arith}
 use lib.ListN.{length, getD, set}
 use lib.Seq.{getD-set-same, getD-set-other, set-out}
 use Rattle.sheet.specs.declared.Bus.{Bus}
 use Rattle.sheet.specs.Memory.{physical, next, writeMem}
-use Rattle.sheet.specs.Log.{rule}
 use Rattle.sheet.specs.World.{World}
 use Rattle.sheet.specs.Act.{Act}
 use Rattle.sheet.specs.Handler.{Event, done, kept, runBy}
 use Rattle.sheet.specs.Step.{counted, stepping, step, interrupting, interrupt}
 use Rattle.sheet.proofs.Lent.{Kept, Sound, Good, keeps-all, good-kept}
-use Rattle.sheet.proofs.StepLaws.{sound-is, begins, enters}
+use Rattle.sheet.proofs.StepLaws.{sound-is, begins, enters, counted-sound}
 use Rattle.theorems.specs.Bounds.{Bytes}
 use Rattle.theorems.specs.Repeat as statement
 use Rattle.theorems.specs.Repeat.{Block, elements, Engine, Call, stepped, interrupted, Calls, no-call, and-then, Gap, quiet, service, Own, begun, next-own, Taken}
@@ -60,10 +58,6 @@ bytes-kept w =
 tree-bytes : (p : Act Unit) (w v : World) (t : List Event) → Sound w → Bytes (w .ram) → runBy kept p w ≡ done tt v t → Bytes (v .ram)
 tree-bytes p w v t s b e =
     left-of (rw e at (keeps-all (GoodBytes w) (bytes-kept w) p kept w (record { good = good-itself s; bytes = b }))) .bytes
-
-counted-sound : (w : World) → Sound w → Sound (counted w)
-unfolding counted
-counted-sound w s = record { whole = s .whole; fixed = s .fixed; tape-in = s .tape-in; log-in = s .log-in; count-in = min-le-right (w .state .count + 1) (rule .ceiling) }
 
 step-bytes : {w v : World} {t : List Event} → Sound w → Bytes (w .ram) → step w ≡ done tt v t → Bytes (v .ram)
 unfolding step counted

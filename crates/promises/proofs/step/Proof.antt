@@ -1,7 +1,7 @@
-use Rattle.theorems.proofs.RepeatCalls.{stepped-so}
+use Rattle.promises.proofs.Laws.{stepped-so}
 use borrow.Author.Needs.{needs}
-use Rattle.theorems.proofs.step.Statement.{statement}
-use Rattle.theorems.proofs.step.Tie as tie
+use Rattle.promises.proofs.step.Statement.{statement}
+use Rattle.promises.proofs.step.Tie as tie
 
 returns : tie.Need-returns
 returns c = search (stepped-so, needs)

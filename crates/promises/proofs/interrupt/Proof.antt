@@ -1,7 +1,7 @@
-use Rattle.theorems.proofs.RepeatCalls.{interrupted-so}
+use Rattle.promises.proofs.Laws.{interrupted-so}
 use borrow.Author.Needs.{needs}
-use Rattle.theorems.proofs.interrupt.Statement.{statement}
-use Rattle.theorems.proofs.interrupt.Tie as tie
+use Rattle.promises.proofs.interrupt.Statement.{statement}
+use Rattle.promises.proofs.interrupt.Tie as tie
 
 returns : tie.Need-returns
 returns c = search (interrupted-so, needs)

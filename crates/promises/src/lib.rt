@@ -1,0 +1,25 @@
+// The calls that demand 3 speaks of, promised as it takes them.
+use calls::Answer;
+use sheet::State;
+ghost use Rattle.sheet.specs.World.{world};
+ghost use Rattle.theorems.specs.RepeatCode.{StepCall, InterruptCall};
+
+pub fn step(s: State, ram: &mut [u8], rom: &[u8], tape: &[u8], log: &mut [u8]) -> Answer
+    ensures { λ r. ⌜ StepCall (world s (now (ram .entry)) (now (rom .entry)) (now (tape .entry)) (now (log .entry))) (r .number) (world (r .state) (now (ram .exit)) (now (rom .entry)) (now (tape .entry)) (now (log .exit))) (r .bus) ⌝ }
+{
+    engine::step(s, ram, rom, tape, log)
+}
+
+pub fn interrupt(
+    s: State,
+    ram: &mut [u8],
+    rom: &[u8],
+    tape: &[u8],
+    log: &[u8],
+    vector: u8,
+    maskable: bool,
+) -> Answer
+    ensures { λ r. ⌜ InterruptCall vector maskable (world s (now (ram .entry)) (now (rom .entry)) (now (tape .entry)) (now (log .entry))) (r .number) (world (r .state) (now (ram .exit)) (now (rom .entry)) (now (tape .entry)) (now (log .entry))) (r .bus) ⌝ }
+{
+    calls::interrupt(s, ram, rom, tape, log, vector, maskable)
+}
