@@ -1,6 +1,5 @@
 -- Instructions as text: NEC's mnemonic and operands, in the order of the sheet's columns.
 use Prim.Native.Nat.{ℕ, _+_, _-_, _%_}
-use Prim.Native.String.{String}
 use mathlib.Core.Bool.{Bool, true, false}
 use mathlib.Core.List.{List, [], _∷_, _++_}
 use lib.ListN.{getD}
@@ -69,13 +68,13 @@ use Rattle.mnemonics.specs.Operands.{operandText, sizeOf}
 
 -- ---- a mnemonic with its operands
 
-unfoldable pub one : String → Operand → List ℕ
-one name a = text name ++ (text " " ++ operandText a)
+unfoldable pub one : List ℕ → Operand → List ℕ
+one name a = name ++ (text " " ++ operandText a)
 
-unfoldable pub two : String → Operand → Operand → List ℕ
+unfoldable pub two : List ℕ → Operand → Operand → List ℕ
 two name a b = one name a ++ (text "," ++ operandText b)
 
-unfoldable pub three : String → Operand → Operand → Operand → List ℕ
+unfoldable pub three : List ℕ → Operand → Operand → Operand → List ℕ
 three name a b c = two name a b ++ (text "," ++ operandText c)
 
 -- ---- operands
@@ -122,47 +121,47 @@ target next disp = Target ((next + disp + pick (ltb disp 32768) 0 983040) % 1048
 -- ---- the groups
 
 unfoldable pub transferText : Transfer → List ℕ
-transferText (Mov w to by) = two "MOV" (ofPlace w to) (ofSource w by)
-transferText (LoadAcc w at) = two "MOV" (acc w) (Mem (sizeOf w) at)
-transferText (StoreAcc w at) = two "MOV" (Mem (sizeOf w) at) (acc w)
-transferText (ToSegment seg p) = two "MOV" (Seg seg) (ofPlace true p)
-transferText (FromSegment p seg) = two "MOV" (ofPlace true p) (Seg seg)
-transferText (LoadPointer seg reg at) = three "MOV" (Seg seg) (Reg true reg) (Mem Pair at)
+transferText (Mov w to by) = two (text "MOV") (ofPlace w to) (ofSource w by)
+transferText (LoadAcc w at) = two (text "MOV") (acc w) (Mem (sizeOf w) at)
+transferText (StoreAcc w at) = two (text "MOV") (Mem (sizeOf w) at) (acc w)
+transferText (ToSegment seg p) = two (text "MOV") (Seg seg) (ofPlace true p)
+transferText (FromSegment p seg) = two (text "MOV") (ofPlace true p) (Seg seg)
+transferText (LoadPointer seg reg at) = three (text "MOV") (Seg seg) (Reg true reg) (Mem Pair at)
 transferText AhFromPsw = text "MOV AH,PSW"
 transferText PswFromAh = text "MOV PSW,AH"
-transferText (Ldea reg at) = two "LDEA" (Reg true reg) (Mem Unsaid at)
-transferText (Trans seg) = one "TRANS" (Block false seg BW)
-transferText (Xch w reg p) = two "XCH" (Reg w reg) (ofPlace w p)
+transferText (Ldea reg at) = two (text "LDEA") (Reg true reg) (Mem Unsaid at)
+transferText (Trans seg) = one (text "TRANS") (Block false seg BW)
+transferText (Xch w reg p) = two (text "XCH") (Reg w reg) (ofPlace w p)
 
-unfoldable pub operationName : Operation → String
-operationName operation.Add = "ADD"
-operationName operation.Or = "OR"
-operationName operation.Addc = "ADDC"
-operationName operation.Subc = "SUBC"
-operationName operation.And = "AND"
-operationName operation.Sub = "SUB"
-operationName operation.Xor = "XOR"
-operationName operation.Cmp = "CMP"
+unfoldable pub operationName : Operation → List ℕ
+operationName operation.Add = text "ADD"
+operationName operation.Or = text "OR"
+operationName operation.Addc = text "ADDC"
+operationName operation.Subc = text "SUBC"
+operationName operation.And = text "AND"
+operationName operation.Sub = text "SUB"
+operationName operation.Xor = text "XOR"
+operationName operation.Cmp = text "CMP"
 
-unfoldable pub unaryName : Unary → String
-unaryName unary.Inc = "INC"
-unaryName unary.Dec = "DEC"
-unaryName unary.Not = "NOT"
-unaryName unary.Neg = "NEG"
+unfoldable pub unaryName : Unary → List ℕ
+unaryName unary.Inc = text "INC"
+unaryName unary.Dec = text "DEC"
+unaryName unary.Not = text "NOT"
+unaryName unary.Neg = text "NEG"
 
 unfoldable pub arithmeticText : Arithmetic → List ℕ
 arithmeticText (arithmetic.Two op w to by) = two (operationName op) (ofPlace w to) (ofSource w by)
 arithmeticText (arithmetic.One op w to) = one (unaryName op) (ofPlace w to)
-arithmeticText (arithmetic.Test w left right) = two "TEST" (ofPlace w left) (ofSource w right)
+arithmeticText (arithmetic.Test w left right) = two (text "TEST") (ofPlace w left) (ofSource w right)
 
 -- an immediate byte of MUL is widened with its sign
 unfoldable pub multiplyText : Multiply → List ℕ
-multiplyText (Mulu w by) = one "MULU" (ofPlace w by)
-multiplyText (Mul w by) = one "MUL" (ofPlace w by)
-multiplyText (MulByte reg p by) = three "MUL" (Reg true reg) (ofPlace true p) (Value true by)
-multiplyText (MulWord reg p by) = three "MUL" (Reg true reg) (ofPlace true p) (Value true by)
-multiplyText (Divu w by) = one "DIVU" (ofPlace w by)
-multiplyText (Div w by) = one "DIV" (ofPlace w by)
+multiplyText (Mulu w by) = one (text "MULU") (ofPlace w by)
+multiplyText (Mul w by) = one (text "MUL") (ofPlace w by)
+multiplyText (MulByte reg p by) = three (text "MUL") (Reg true reg) (ofPlace true p) (Value true by)
+multiplyText (MulWord reg p by) = three (text "MUL") (Reg true reg) (ofPlace true p) (Value true by)
+multiplyText (Divu w by) = one (text "DIVU") (ofPlace w by)
+multiplyText (Div w by) = one (text "DIV") (ofPlace w by)
 
 unfoldable pub convertText : Convert → List ℕ
 convertText Adjba = text "ADJBA"
@@ -174,79 +173,79 @@ convertText Cvtdb = text "CVTDB"
 convertText Cvtbw = text "CVTBW"
 convertText Cvtwl = text "CVTWL"
 
-unfoldable pub shiftName : Shift → String
-shiftName Rol = "ROL"
-shiftName Ror = "ROR"
-shiftName Rolc = "ROLC"
-shiftName Rorc = "RORC"
-shiftName Shl = "SHL"
-shiftName Shr = "SHR"
-shiftName Shra = "SHRA"
+unfoldable pub shiftName : Shift → List ℕ
+shiftName Rol = text "ROL"
+shiftName Ror = text "ROR"
+shiftName Rolc = text "ROLC"
+shiftName Rorc = text "RORC"
+shiftName Shl = text "SHL"
+shiftName Shr = text "SHR"
+shiftName Shra = text "SHRA"
 
-unfoldable pub bitName : Bit → String
-bitName Test1 = "TEST1"
-bitName Clr1 = "CLR1"
-bitName Set1 = "SET1"
-bitName Not1 = "NOT1"
+unfoldable pub bitName : Bit → List ℕ
+bitName Test1 = text "TEST1"
+bitName Clr1 = text "CLR1"
+bitName Set1 = text "SET1"
+bitName Not1 = text "NOT1"
 
 unfoldable pub decimalText : Decimal → List ℕ
-decimalText (Add4s seg) = two "ADD4S" (inDs1 false) (from false seg)
-decimalText (Sub4s seg) = two "SUB4S" (inDs1 false) (from false seg)
-decimalText (Cmp4s seg) = two "CMP4S" (inDs1 false) (from false seg)
-decimalText (Rol4 to) = one "ROL4" (ofPlace false to)
-decimalText (Ror4 to) = one "ROR4" (ofPlace false to)
+decimalText (Add4s seg) = two (text "ADD4S") (inDs1 false) (from false seg)
+decimalText (Sub4s seg) = two (text "SUB4S") (inDs1 false) (from false seg)
+decimalText (Cmp4s seg) = two (text "CMP4S") (inDs1 false) (from false seg)
+decimalText (Rol4 to) = one (text "ROL4") (ofPlace false to)
+decimalText (Ror4 to) = one (text "ROR4") (ofPlace false to)
 
 -- offset, length, and the field's words in memory
 unfoldable pub fieldText : Field → List ℕ
-fieldText (Ins offset n) = three "INS" (Reg false offset) (ofLength n) (inDs1 true)
-fieldText (Ext seg offset n) = three "EXT" (Reg false offset) (ofLength n) (from true seg)
+fieldText (Ins offset n) = three (text "INS") (Reg false offset) (ofLength n) (inDs1 true)
+fieldText (Ext seg offset n) = three (text "EXT") (Reg false offset) (ofLength n) (from true seg)
 
 unfoldable pub stackText : Stack → List ℕ
-stackText (Push p) = one "PUSH" (ofPlace true p)
-stackText (PushByte v) = one "PUSH" (Value true v)
-stackText (PushWord v) = one "PUSH" (Value true v)
-stackText (PushSegment seg) = one "PUSH" (Seg seg)
+stackText (Push p) = one (text "PUSH") (ofPlace true p)
+stackText (PushByte v) = one (text "PUSH") (Value true v)
+stackText (PushWord v) = one (text "PUSH") (Value true v)
+stackText (PushSegment seg) = one (text "PUSH") (Seg seg)
 stackText PushPsw = text "PUSH PSW"
 stackText PushR = text "PUSH R"
-stackText (Pop p) = one "POP" (ofPlace true p)
-stackText (PopSegment seg) = one "POP" (Seg seg)
+stackText (Pop p) = one (text "POP") (ofPlace true p)
+stackText (PopSegment seg) = one (text "POP") (Seg seg)
 stackText PopPsw = text "POP PSW"
 stackText PopR = text "POP R"
-stackText (Prepare size level) = two "PREPARE" (Value true size) (Value false level)
+stackText (Prepare size level) = two (text "PREPARE") (Value true size) (Value false level)
 stackText Dispose = text "DISPOSE"
 
 unfoldable pub branchText : (next : ℕ) → Branch → List ℕ
-branchText next (CallNear disp) = one "CALL" (target next disp)
-branchText next (CallTo p) = one "CALL" (ofPlace true p)
-branchText next (CallFar ps pc) = one "CALL" (Far ps pc)
-branchText next (CallFarAt at) = one "CALL" (Mem Pair at)
+branchText next (CallNear disp) = one (text "CALL") (target next disp)
+branchText next (CallTo p) = one (text "CALL") (ofPlace true p)
+branchText next (CallFar ps pc) = one (text "CALL") (Far ps pc)
+branchText next (CallFarAt at) = one (text "CALL") (Mem Pair at)
 branchText next Ret = text "RET"
-branchText next (RetPop size) = one "RET" (Value true size)
+branchText next (RetPop size) = one (text "RET") (Value true size)
 branchText next RetFar = text "RET"
-branchText next (RetFarPop size) = one "RET" (Value true size)
-branchText next (BrNear disp) = one "BR" (target next disp)
-branchText next (BrShort disp) = one "BR" (target next disp)
-branchText next (BrTo p) = one "BR" (ofPlace true p)
-branchText next (BrFar ps pc) = one "BR" (Far ps pc)
-branchText next (BrFarAt at) = one "BR" (Mem Pair at)
+branchText next (RetFarPop size) = one (text "RET") (Value true size)
+branchText next (BrNear disp) = one (text "BR") (target next disp)
+branchText next (BrShort disp) = one (text "BR") (target next disp)
+branchText next (BrTo p) = one (text "BR") (ofPlace true p)
+branchText next (BrFar ps pc) = one (text "BR") (Far ps pc)
+branchText next (BrFarAt at) = one (text "BR") (Mem Pair at)
 
 -- by the low four bits of the code
-abbrev pub conditionNames : List String
-conditionNames = "BV" ∷ "BNV" ∷ "BC" ∷ "BNC" ∷ "BE" ∷ "BNE" ∷ "BNH" ∷ "BH" ∷ "BN" ∷ "BP" ∷ "BPE" ∷ "BPO" ∷ "BLT" ∷ "BGE" ∷ "BLE" ∷ "BGT" ∷ []
+abbrev pub conditionNames : List (List ℕ)
+conditionNames = text "BV" ∷ text "BNV" ∷ text "BC" ∷ text "BNC" ∷ text "BE" ∷ text "BNE" ∷ text "BNH" ∷ text "BH" ∷ text "BN" ∷ text "BP" ∷ text "BPE" ∷ text "BPO" ∷ text "BLT" ∷ text "BGE" ∷ text "BLE" ∷ text "BGT" ∷ []
 
 unfoldable pub conditionalText : (next : ℕ) → Conditional → List ℕ
-conditionalText next (If condition disp) = one (getD conditionNames (condition % 16) "") (target next disp)
-conditionalText next (Dbnzne disp) = one "DBNZNE" (target next disp)
-conditionalText next (Dbnze disp) = one "DBNZE" (target next disp)
-conditionalText next (Dbnz disp) = one "DBNZ" (target next disp)
-conditionalText next (Bcwz disp) = one "BCWZ" (target next disp)
+conditionalText next (If condition disp) = one (getD conditionNames (condition % 16) []) (target next disp)
+conditionalText next (Dbnzne disp) = one (text "DBNZNE") (target next disp)
+conditionalText next (Dbnze disp) = one (text "DBNZE") (target next disp)
+conditionalText next (Dbnz disp) = one (text "DBNZ") (target next disp)
+conditionalText next (Bcwz disp) = one (text "BCWZ") (target next disp)
 
 unfoldable pub interruptText : Interrupt → List ℕ
 interruptText Brk3 = text "BRK 3"
-interruptText (Brk vector) = one "BRK" (Value false vector)
+interruptText (Brk vector) = one (text "BRK") (Value false vector)
 interruptText Brkv = text "BRKV"
 interruptText Reti = text "RETI"
-interruptText (Chkind reg at) = two "CHKIND" (Reg true reg) (Mem Pair at)
+interruptText (Chkind reg at) = two (text "CHKIND") (Reg true reg) (Mem Pair at)
 
 -- the first name of the prefix's row, and a space
 unfoldable pub repeatText : Repeat → List ℕ
@@ -257,17 +256,17 @@ repeatText WhileCy = text "REPC "
 repeatText WhileNotCy = text "REPNC "
 
 unfoldable pub primitiveText : Primitive → Bool → ℕ → List ℕ
-primitiveText Movbk w seg = two "MOVBK" (inDs1 w) (from w seg)
-primitiveText Cmpbk w seg = two "CMPBK" (from w seg) (inDs1 w)
-primitiveText Cmpm w seg = one "CMPM" (inDs1 w)
-primitiveText Ldm w seg = one "LDM" (from w seg)
-primitiveText Stm w seg = one "STM" (inDs1 w)
-primitiveText Inm w seg = two "INM" (inDs1 w) (Reg true DW)
-primitiveText Outm w seg = two "OUTM" (Reg true DW) (from w seg)
+primitiveText Movbk w seg = two (text "MOVBK") (inDs1 w) (from w seg)
+primitiveText Cmpbk w seg = two (text "CMPBK") (from w seg) (inDs1 w)
+primitiveText Cmpm w seg = one (text "CMPM") (inDs1 w)
+primitiveText Ldm w seg = one (text "LDM") (from w seg)
+primitiveText Stm w seg = one (text "STM") (inDs1 w)
+primitiveText Inm w seg = two (text "INM") (inDs1 w) (Reg true DW)
+primitiveText Outm w seg = two (text "OUTM") (Reg true DW) (from w seg)
 
 unfoldable pub portText : Io → List ℕ
-portText (In w port) = two "IN" (acc w) (ofPort port)
-portText (Out w port) = two "OUT" (ofPort port) (acc w)
+portText (In w port) = two (text "IN") (acc w) (ofPort port)
+portText (Out w port) = two (text "OUT") (ofPort port) (acc w)
 
 unfoldable pub controlText : Control → List ℕ
 controlText Nop = text "NOP"

@@ -1,5 +1,5 @@
 -- Operands as text.
-use Prim.Native.Nat.{ℕ, _%_}
+use Prim.Native.Nat.{ℕ, _+_, _*_, _%_}
 use mathlib.Core.Bool.{Bool, true, false}
 use mathlib.Core.List.{List, [], _∷_, _++_}
 use lib.ListN.{getD}
@@ -19,17 +19,21 @@ use Rattle.mnemonics.specs.declared.Operand.the-variants.{Reg, Seg, Mem,
 
 -- ---- names, in the order of Tables 8-6 and 8-7
 
-abbrev pub byteRegisters : List (List ℕ)
-byteRegisters = text "AL" ∷ text "CL" ∷ text "DL" ∷ text "BL" ∷ text "AH" ∷ text "CH" ∷ text "DH" ∷ text "BH" ∷ []
+-- two letters a register
+abbrev pub byteRegisters : List ℕ
+byteRegisters = text "ALCLDLBLAHCHDHBH"
 
-abbrev pub wordRegisters : List (List ℕ)
-wordRegisters = text "AW" ∷ text "CW" ∷ text "DW" ∷ text "BW" ∷ text "SP" ∷ text "BP" ∷ text "IX" ∷ text "IY" ∷ []
+abbrev pub wordRegisters : List ℕ
+wordRegisters = text "AWCWDWBWSPBPIXIY"
+
+unfoldable pub letter : Bool → ℕ → ℕ
+letter w i = getD (pick w wordRegisters byteRegisters) i 0
+
+unfoldable pub registerText : Bool → ℕ → List ℕ
+registerText w n = letter w (2 * (n % 8)) ∷ letter w (2 * (n % 8) + 1) ∷ []
 
 abbrev pub segments : List (List ℕ)
 segments = text "DS1" ∷ text "PS" ∷ text "SS" ∷ text "DS0" ∷ []
-
-unfoldable pub registerText : Bool → ℕ → List ℕ
-registerText w n = getD (pick w wordRegisters byteRegisters) (n % 8) []
 
 unfoldable pub segmentText : ℕ → List ℕ
 segmentText n = getD segments (n % 4) []
@@ -53,12 +57,19 @@ formText f = registerText true (f .base) ++ indexText (f .index)
 unfoldable pub dispText : ℕ → List ℕ
 dispText disp = pick (eqb disp 0) [] (text "+" ++ hex 4 disp)
 
+-- a segment, up to the offset in it
+unfoldable pub opening : ℕ → List ℕ
+opening seg = segmentText seg ++ text ":["
+
 -- in a segment, what is given by an offset's text
 unfoldable pub within : ℕ → List ℕ → List ℕ
-within seg offset = segmentText seg ++ (text ":[" ++ (offset ++ text "]"))
+within seg offset = opening seg ++ (offset ++ text "]")
+
+unfoldable pub formedText : ℕ → ℕ → List ℕ
+formedText form disp = formText (formAt form) ++ dispText disp
 
 unfoldable pub addressText : Address → List ℕ
-addressText (Formed seg form disp) = within seg (formText (formAt form) ++ dispText disp)
+addressText (Formed seg form disp) = within seg (formedText form disp)
 addressText (Direct seg offset) = within seg (hex 4 offset)
 
 -- ---- all operands

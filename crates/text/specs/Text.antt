@@ -7,7 +7,7 @@ use lib.Dec.{ltb}
 use Rattle.sheet.specs.Width.{pick}
 
 -- a word's characters
-unfoldable pub text : String → List ℕ
+abbrev pub text : String → List ℕ
 text none = []
 text (c and s) = code c ∷ text s
 

@@ -1,0 +1,15 @@
+-- What is said of a function that puts text into a line.
+use Prim.Native.Nat.{ℕ, _+_, _≤_}
+use mathlib.Core.Path.{_≡_}
+use mathlib.Core.List.{List, _++_}
+use lib.ListN.{length, take}
+
+-- the first r bytes of a line are a text
+pub record Holds (line : List ℕ) (r : ℕ) (text : List ℕ) : Type 0 where
+  pub long : length line ≡ 80
+  pub count : r ≡ length text
+  pub first : take r line ≡ text
+
+-- where there is room, x is put behind the text that stands there, and r is where it ends
+pub record Adds (x line : List ℕ) (at r : ℕ) (line′ : List ℕ) : Type 0 where
+  pub adds : (text : List ℕ) → length (text ++ x) ≤ 80 → Holds line at text → Holds line′ r (text ++ x)
