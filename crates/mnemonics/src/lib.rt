@@ -42,10 +42,41 @@ pub enum Operand {
 }
 
 const WORDS: [u8; 16] = [
-    b'A', b'W', b'C', b'W', b'D', b'W', b'B', b'W', b'S', b'P', b'B', b'P', b'I', b'X', b'I', b'Y',
+    b'A',
+    b'W',
+    b'C',
+    b'W',
+    b'D',
+    b'W',
+    b'B',
+    b'W',
+    b'S',
+    b'P',
+    b'B',
+    b'P',
+    b'I',
+    b'X',
+    b'I',
+    b'Y',
 ];
+
 const BYTES: [u8; 16] = [
-    b'A', b'L', b'C', b'L', b'D', b'L', b'B', b'L', b'A', b'H', b'C', b'H', b'D', b'H', b'B', b'H',
+    b'A',
+    b'L',
+    b'C',
+    b'L',
+    b'D',
+    b'L',
+    b'B',
+    b'L',
+    b'A',
+    b'H',
+    b'C',
+    b'H',
+    b'D',
+    b'H',
+    b'B',
+    b'H',
 ];
 
 fn letter(word: bool, i: usize) -> u8
