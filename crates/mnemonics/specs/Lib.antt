@@ -1,2 +1,3 @@
 pub mod Operands
 pub mod Mnemonics
+pub mod Printed
