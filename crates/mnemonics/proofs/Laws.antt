@@ -1,11 +1,12 @@
 -- What the pieces of an operand come to.
-use Prim.Native.Nat.{ℕ, zero, suc, _+_, _*_, _%_, _<_}
+use Prim.Native.Nat.{ℕ, zero, suc, _+_, _*_, _%_, _<_, _≤_}
 use mathlib.Core.Path.{_≡_, refl}
 use mathlib.Core.Bool.{Bool, true, false}
 use mathlib.Core.List.{List, [], _∷_, _++_}
 use native.Mathlib.Omega.{arith}
+use native.Mathlib.Nat.{add-zero}
 use lib.ListN.{getD}
-use borrow.Author.Tests.{ne-eqb}
+use borrow.Author.Tests.{ne-eqb, lt-ltb, le-ltb}
 use Rattle.sheet.specs.declared.Address.{Address}
 use Rattle.sheet.specs.declared.Address.the-variants.{Formed, Direct}
 use Rattle.sheet.specs.declared.Form.{Form}
@@ -15,7 +16,11 @@ use Rattle.sheet.specs.Operand.{formAt}
 use Rattle.text.specs.Text.{text, hex}
 use Rattle.line.specs.Adds.{Adds}
 use Rattle.line.proofs.Laws.{nothing, then}
-use Rattle.mnemonics.specs.Operands.{byteRegisters, wordRegisters, letter, registerText, segmentText, indexText, formText, dispText, opening, within, formedText, addressText}
+use Rattle.mnemonics.specs.Operands.{byteRegisters, wordRegisters, letter, registerText, segmentText, indexText, formText, dispText, opening, within, formedText, addressText, sizeText, sizeOf, operandText}
+use Rattle.mnemonics.specs.Mnemonics.{after, afterTwo, afterThree, one, two, three, target}
+use Rattle.mnemonics.specs.declared.Size.{Size}
+use Rattle.mnemonics.specs.declared.Operand.{Operand}
+use Rattle.mnemonics.specs.declared.Operand.the-variants.{Mem, Block, Value, Target, Far}
 
 pub word-letter : (w : Bool) (i : ℕ) → w ≡ true → getD wordRegisters i 0 ≡ letter w i
 unfolding letter
@@ -67,6 +72,59 @@ module _ {line line′ line″ : List ℕ} {at r r′ : ℕ} where
         → Adds (text "]") line″ r′ r″ line‴ → Adds (addressText a) line at r″ line‴
     unfolding addressText
     direct-address a seg offset e x y z = rw e (within-added seg _ x y z)
+
+module _ {line line′ line″ : List ℕ} {at r r′ : ℕ} where
+  pub memory-added : (o : Operand) (s : Size) (a : Address) → o ≡ Mem s a → Adds (sizeText s) line at r line′ → Adds (addressText a) line′ r r′ line″ → Adds (operandText o) line at r′ line″
+  unfolding operandText
+  memory-added o s a e x y = rw e (then x y)
+
+  pub after-added : (a : Operand) → Adds (text " ") line at r line′ → Adds (operandText a) line′ r r′ line″ → Adds (after a) line at r′ line″
+  unfolding after
+  after-added a x y = then x y
+
+  pub one-added : (name : List ℕ) (a : Operand) → Adds name line at r line′ → Adds (after a) line′ r r′ line″ → Adds (one name a) line at r′ line″
+  unfolding one
+  one-added name a x y = then x y
+
+  pub two-added : (name : List ℕ) (a b : Operand) → Adds name line at r line′ → Adds (afterTwo a b) line′ r r′ line″ → Adds (two name a b) line at r′ line″
+  unfolding two
+  two-added name a b x y = then x y
+
+  module _ {line‴ : List ℕ} {r″ : ℕ} where
+    pub far-added : (ps pc : ℕ) → Adds (hex 4 ps) line at r line′ → Adds (text ":") line′ r r′ line″ → Adds (hex 4 pc) line″ r′ r″ line‴ → Adds (operandText (Far ps pc)) line at r″ line‴
+    unfolding operandText
+    far-added ps pc x y z = then x (then y z)
+
+    pub after-two-added : (a b : Operand) → Adds (after a) line at r line′ → Adds (text ",") line′ r r′ line″ → Adds (operandText b) line″ r′ r″ line‴ → Adds (afterTwo a b) line at r″ line‴
+    unfolding afterTwo
+    after-two-added a b x y z = then x (then y z)
+
+    pub three-added : (name : List ℕ) (a b c : Operand) {line⁗ : List ℕ} {r‴ : ℕ} → Adds name line at r line′ → Adds (afterTwo a b) line′ r r′ line″ → Adds (text ",") line″ r′ r″ line‴
+        → Adds (operandText c) line‴ r″ r‴ line⁗ → Adds (three name a b c) line at r‴ line⁗
+    unfolding three afterThree
+    three-added name a b c x y z v = then x (then y (then z v))
+
+    pub block-added : (w : Bool) (seg by : ℕ) (s : Size) {line⁗ : List ℕ} {r‴ : ℕ} → s ≡ sizeOf w → Adds (sizeText s) line at r line′ → Adds (opening seg) line′ r r′ line″
+        → Adds (registerText true by) line″ r′ r″ line‴ → Adds (text "]") line‴ r″ r‴ line⁗ → Adds (operandText (Block w seg by)) line at r‴ line⁗
+    unfolding operandText
+    block-added w seg by s e x y z v = rw (← e) (then x (within-added seg _ y z v))
+
+module _ {line line′ : List ℕ} {at r : ℕ} where
+  pub word-value : (w : Bool) (v : ℕ) → w ≡ true → Adds (hex 4 v) line at r line′ → Adds (operandText (Value w v)) line at r line′
+  unfolding operandText
+  word-value w v e h = rw e h
+
+  pub byte-value : (w : Bool) (v : ℕ) → w ≡ false → Adds (hex 2 v) line at r line′ → Adds (operandText (Value w v)) line at r line′
+  unfolding operandText
+  byte-value w v e h = rw e h
+
+pub target-on : (next disp : ℕ) → disp < 32768 → Target ((next + disp) % 1048576) ≡ target next disp
+unfolding target
+target-on next disp h = rw (lt-ltb disp 32768 h, add-zero (next + disp)) refl
+
+pub target-back : (next disp : ℕ) → 32768 ≤ disp → Target ((next + disp + 983040) % 1048576) ≡ target next disp
+unfolding target
+target-back next disp h = rw (le-ltb disp 32768 h) refl
 
 module _ {line : List ℕ} {at : ℕ} where
   pub no-index : (i : Index) → i ≡ Nothing → Adds (indexText i) line at at line

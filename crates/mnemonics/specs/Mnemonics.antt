@@ -68,14 +68,24 @@ use Rattle.mnemonics.specs.Operands.{operandText, sizeOf}
 
 -- ---- a mnemonic with its operands
 
+-- what stands behind the mnemonic
+unfoldable pub after : Operand → List ℕ
+after a = text " " ++ operandText a
+
+unfoldable pub afterTwo : Operand → Operand → List ℕ
+afterTwo a b = after a ++ (text "," ++ operandText b)
+
+unfoldable pub afterThree : Operand → Operand → Operand → List ℕ
+afterThree a b c = afterTwo a b ++ (text "," ++ operandText c)
+
 unfoldable pub one : List ℕ → Operand → List ℕ
-one name a = name ++ (text " " ++ operandText a)
+one name a = name ++ after a
 
 unfoldable pub two : List ℕ → Operand → Operand → List ℕ
-two name a b = one name a ++ (text "," ++ operandText b)
+two name a b = name ++ afterTwo a b
 
 unfoldable pub three : List ℕ → Operand → Operand → Operand → List ℕ
-three name a b c = two name a b ++ (text "," ++ operandText c)
+three name a b c = name ++ afterThree a b c
 
 -- ---- operands
 

@@ -15,6 +15,7 @@ ghost use mathlib.Core.Path.{_≡_};
 ghost use Prim.Native.Nat.{_<_};
 ghost use Rattle.sheet.specs.Operand.{formAt};
 ghost use Rattle.line.specs.Adds.{Adds};
+ghost use Rattle.mnemonics.specs.declared.Operand.the-variants as operand;
 ghost use Rattle.mnemonics.specs.Operands as text;
 ghost use Rattle.mnemonics.specs.Mnemonics as words;
 
@@ -30,7 +31,7 @@ pub enum Size {
 pub enum Operand {
     Reg { word: bool, number: u8 },
     Seg(u8),
-    Mem { size: Size, at: Address },
+    Mem { size: Size, address: Address },
     // what an index register points to in a segment: a block, a string, a table
     Block { word: bool, seg: u8, by: u8 },
     Value { word: bool, value: u16 },
@@ -182,4 +183,191 @@ fn put_address(line: &mut [u8; 80], at: usize, a: Address) -> usize
             put_byte(line, end, b']')
         }
     }
+}
+
+// What an index register points to in a segment.
+fn put_block(line: &mut [u8; 80], at: usize, word: bool, seg: u8, by: u8) -> usize
+    ensures { λ r. ⌜ Adds (text.operandText (operand.Block word seg by)) (now (line .entry)) at r (now (line .exit)) ⌝ }
+{
+    let a = put_size(line, at, size_of(word));
+    let b = put_within(line, a, seg);
+    let c = put_register(line, b, true, by);
+    put_byte(line, c, b']')
+}
+
+fn put_value(line: &mut [u8; 80], at: usize, word: bool, value: u16) -> usize
+    ensures { λ r. ⌜ Adds (text.operandText (operand.Value word value)) (now (line .entry)) at r (now (line .exit)) ⌝ }
+{
+    if word {
+        return put_hex(line, at, value as u64, 4);
+    }
+    put_hex(line, at, value as u64, 2)
+}
+
+fn put_far(line: &mut [u8; 80], at: usize, ps: u16, pc: u16) -> usize
+    ensures { λ r. ⌜ Adds (text.operandText (operand.Far ps pc)) (now (line .entry)) at r (now (line .exit)) ⌝ }
+{
+    let a = put_hex(line, at, ps as u64, 4);
+    let b = put_byte(line, a, b':');
+    put_hex(line, b, pc as u64, 4)
+}
+
+fn put_operand(line: &mut [u8; 80], at: usize, o: Operand) -> usize
+    ensures { λ r. ⌜ Adds (text.operandText o) (now (line .entry)) at r (now (line .exit)) ⌝ }
+{
+    match o {
+        Operand::Reg { word, number } => put_register(line, at, word, number),
+        Operand::Seg(n) => put_segment(line, at, n),
+        Operand::Mem { size, address } => {
+            let end = put_size(line, at, size);
+            put_address(line, end, address)
+        }
+        Operand::Block { word, seg, by } => put_block(line, at, word, seg, by),
+        Operand::Value { word, value } => put_value(line, at, word, value),
+        Operand::Once => put_byte(line, at, b'1'),
+        Operand::Target(a) => put_hex(line, at, a as u64, 5),
+        Operand::Far { ps, pc } => put_far(line, at, ps, pc),
+    }
+}
+
+// ---- a mnemonic with its operands
+
+// What stands behind the mnemonic.
+pub fn put_after(line: &mut [u8; 80], at: usize, a: Operand) -> usize
+    ensures { λ r. ⌜ Adds (words.after a) (now (line .entry)) at r (now (line .exit)) ⌝ }
+{
+    let x = put_byte(line, at, b' ');
+    put_operand(line, x, a)
+}
+
+pub fn put_after_two(line: &mut [u8; 80], at: usize, a: Operand, b: Operand) -> usize
+    ensures { λ r. ⌜ Adds (words.afterTwo a b) (now (line .entry)) at r (now (line .exit)) ⌝ }
+{
+    let x = put_after(line, at, a);
+    let y = put_byte(line, x, b',');
+    put_operand(line, y, b)
+}
+
+pub fn put_one(line: &mut [u8; 80], at: usize, name: &[u8], a: Operand) -> usize
+    ensures { λ r. ⌜ Adds (words.one (now (name .entry)) a) (now (line .entry)) at r (now (line .exit)) ⌝ }
+{
+    let x = put_word(line, at, name);
+    put_after(line, x, a)
+}
+
+pub fn put_two(line: &mut [u8; 80], at: usize, name: &[u8], a: Operand, b: Operand) -> usize
+    ensures { λ r. ⌜ Adds (words.two (now (name .entry)) a b) (now (line .entry)) at r (now (line .exit)) ⌝ }
+{
+    let x = put_word(line, at, name);
+    put_after_two(line, x, a, b)
+}
+
+pub fn put_three(
+    line: &mut [u8; 80],
+    at: usize,
+    name: &[u8],
+    a: Operand,
+    b: Operand,
+    c: Operand,
+) -> usize
+    ensures { λ r. ⌜ Adds (words.three (now (name .entry)) a b c) (now (line .entry)) at r (now (line .exit)) ⌝ }
+{
+    let x = put_word(line, at, name);
+    let y = put_after_two(line, x, a, b);
+    let z = put_byte(line, y, b',');
+    put_operand(line, z, c)
+}
+
+// ---- operands from those of an instruction
+
+pub fn size_of(word: bool) -> Size
+    ensures { λ r. ⌜ r ≡ text.sizeOf word ⌝ }
+{
+    if word { Size::Word } else { Size::Byte }
+}
+
+pub fn of_place(word: bool, p: Place) -> Operand
+    ensures { λ r. ⌜ r ≡ words.ofPlace word p ⌝ }
+{
+    match p {
+        Place::Register(n) => Operand::Reg { word, number: n },
+        Place::Memory(a) => Operand::Mem {
+            size: size_of(word),
+            address: a,
+        },
+    }
+}
+
+pub fn of_source(word: bool, s: Source) -> Operand
+    ensures { λ r. ⌜ r ≡ words.ofSource word s ⌝ }
+{
+    match s {
+        Source::Held(p) => of_place(word, p),
+        Source::Immediate(v) => Operand::Value { word, value: v },
+    }
+}
+
+pub fn of_amount(a: Amount) -> Operand
+    ensures { λ r. ⌜ r ≡ words.ofAmount a ⌝ }
+{
+    match a {
+        Amount::InCl => Operand::Reg {
+            word: false,
+            number: 1,
+        },
+        Amount::Given(n) => Operand::Value {
+            word: false,
+            value: n as u16,
+        },
+    }
+}
+
+pub fn of_places(p: Places) -> Operand
+    ensures { λ r. ⌜ r ≡ words.ofPlaces p ⌝ }
+{
+    match p {
+        Places::One => Operand::Once,
+        Places::Counted(a) => of_amount(a),
+    }
+}
+
+pub fn of_length(n: Length) -> Operand
+    ensures { λ r. ⌜ r ≡ words.ofLength n ⌝ }
+{
+    match n {
+        Length::InRegister(r) => Operand::Reg {
+            word: false,
+            number: r,
+        },
+        Length::Given(v) => Operand::Value {
+            word: false,
+            value: v as u16,
+        },
+    }
+}
+
+pub fn of_port(p: Port) -> Operand
+    ensures { λ r. ⌜ r ≡ words.ofPort p ⌝ }
+{
+    match p {
+        Port::InDw => Operand::Reg {
+            word: true,
+            number: 2,
+        },
+        Port::Numbered(n) => Operand::Value {
+            word: false,
+            value: n as u16,
+        },
+    }
+}
+
+// Where a displacement leads from the next instruction.
+pub fn target(next: u32, disp: u16) -> Operand
+    ensures { λ r. ⌜ r ≡ words.target next disp ⌝ }
+{
+    let past = next as u64 + disp as u64;
+    if disp < 0x8000 {
+        return Operand::Target((past % 0x100000) as u32);
+    }
+    Operand::Target(((past + 0xf0000) % 0x100000) as u32)
 }
