@@ -158,3 +158,17 @@ module _ {line line′ : List ℕ} {at r : ℕ} where
       last (suc (suc zero)) a b c m = absurd (c refl)
       last (suc (suc (suc zero))) a b c m = refl
       last (suc (suc (suc (suc k)))) a b c m = omega arith
+
+-- operands that are known to be others
+module _ {line line′ : List ℕ} {at r : ℕ} where
+  pub one-known : (name : List ℕ) {a a′ : Operand} → a ≡ a′ → Adds (one name a) line at r line′ → Adds (one name a′) line at r line′
+  one-known name e h = rw (← e) h
+
+  pub after-two-known : {a a′ b b′ : Operand} → a ≡ a′ → b ≡ b′ → Adds (afterTwo a b) line at r line′ → Adds (afterTwo a′ b′) line at r line′
+  after-two-known e f h = rw (← e, ← f) h
+
+  pub two-known : (name : List ℕ) {a a′ b b′ : Operand} → a ≡ a′ → b ≡ b′ → Adds (two name a b) line at r line′ → Adds (two name a′ b′) line at r line′
+  two-known name e f h = rw (← e, ← f) h
+
+  pub three-known : (name : List ℕ) {a a′ b b′ c c′ : Operand} → a ≡ a′ → b ≡ b′ → c ≡ c′ → Adds (three name a b c) line at r line′ → Adds (three name a′ b′ c′) line at r line′
+  three-known name e f g h = rw (← e, ← f, ← g) h

@@ -371,3 +371,47 @@ pub fn target(next: u32, disp: u16) -> Operand
     }
     Operand::Target(((past + 0xf0000) % 0x100000) as u32)
 }
+
+// ---- the operands that most instructions have
+
+pub fn put_place(line: &mut [u8; 80], at: usize, name: &[u8], word: bool, p: Place) -> usize
+    ensures { λ r. ⌜ Adds (words.one (now (name .entry)) (words.ofPlace word p)) (now (line .entry)) at r (now (line .exit)) ⌝ }
+{
+    let o = of_place(word, p);
+    put_one(line, at, name, o)
+}
+
+pub fn put_after_place_source(
+    line: &mut [u8; 80],
+    at: usize,
+    word: bool,
+    to: Place,
+    from: Source,
+) -> usize
+    ensures { λ r. ⌜ Adds (words.afterTwo (words.ofPlace word to) (words.ofSource word from)) (now (line .entry)) at r (now (line .exit)) ⌝ }
+{
+    let a = of_place(word, to);
+    let b = of_source(word, from);
+    put_after_two(line, at, a, b)
+}
+
+pub fn put_place_source(
+    line: &mut [u8; 80],
+    at: usize,
+    name: &[u8],
+    word: bool,
+    to: Place,
+    from: Source,
+) -> usize
+    ensures { λ r. ⌜ Adds (words.two (now (name .entry)) (words.ofPlace word to) (words.ofSource word from)) (now (line .entry)) at r (now (line .exit)) ⌝ }
+{
+    let x = put_word(line, at, name);
+    put_after_place_source(line, x, word, to, from)
+}
+
+pub fn put_target(line: &mut [u8; 80], at: usize, name: &[u8], next: u32, disp: u16) -> usize
+    ensures { λ r. ⌜ Adds (words.one (now (name .entry)) (words.target next disp)) (now (line .entry)) at r (now (line .exit)) ⌝ }
+{
+    let o = target(next, disp);
+    put_one(line, at, name, o)
+}
