@@ -1,0 +1,2 @@
+pub mod LineRestored
+pub mod RoundTrip
