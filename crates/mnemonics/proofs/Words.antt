@@ -66,7 +66,7 @@ use Rattle.mnemonics.specs.declared.Size.the-variants.{Unsaid, Byte, Wor
 use Rattle.mnemonics.specs.declared.Operand.{Operand}
 use Rattle.mnemonics.specs.declared.Operand.the-variants.{Reg, Seg, Mem, Block, Value, Once, Target, Far}
 use Rattle.mnemonics.specs.Operands.{byteRegisters, wordRegisters, segments, letter, registerText, segmentText, sizeText, indexText, formText, dispText, opening, within, formedText, addressText, sizeOf, operandText}
-use Rattle.mnemonics.specs.Mnemonics.{one, two, three, operationName, unaryName, shiftName, bitName, conditionNames, repeatText, transferText, arithmeticText, multiplyText, convertText, decimalText, fieldText, stackText, branchText, conditionalText, interruptText, primitiveText, portText, controlText, computeText, moveText, instrText}
+use Rattle.mnemonics.specs.Mnemonics.{after, afterTwo, afterThree, one, two, three, operationName, unaryName, shiftName, bitName, conditionNames, repeatText, transferText, arithmeticText, multiplyText, convertText, decimalText, fieldText, stackText, branchText, conditionalText, interruptText, primitiveText, portText, controlText, computeText, moveText, instrText}
 use Rattle.mnemonics.specs.Printed.{Printed, no-more, and-then}
 
 -- a text of at most n characters, all of them printed
@@ -222,13 +222,21 @@ operand-fits (Far ps pc) = wider (joined (hex-fits 4 ps) (joined (spelled ":" re
 
 -- ---- a mnemonic with its operands
 
+behind-one : {n : ℕ} (a : Operand) → Fits n (operandText a) → Fits (1 + n) (after a)
+unfolding after
+behind-one a k = joined (spelled " " refl) k
+
+behind-two : {n : ℕ} (a b : Operand) → Fits n (operandText a) → Fits (1 + n + (1 + 22)) (afterTwo a b)
+unfolding afterTwo
+behind-two a b k = joined (behind-one a k) (joined (spelled "," refl) (operand-fits b))
+
 with-one : {m n : ℕ} {name : List ℕ} (a : Operand) → Fits m name → Fits n (operandText a) → Fits (m + (1 + n)) (one name a)
 unfolding one
-with-one a h k = joined h (joined (spelled " " refl) k)
+with-one a h k = joined h (behind-one a k)
 
-with-two : {m n : ℕ} {name : List ℕ} (a b : Operand) → Fits m name → Fits n (operandText a) → Fits (m + (1 + n) + (1 + 22)) (two name a b)
+with-two : {m n : ℕ} {name : List ℕ} (a b : Operand) → Fits m name → Fits n (operandText a) → Fits (m + (1 + n + (1 + 22))) (two name a b)
 unfolding two
-with-two a b h k = joined (with-one a h k) (joined (spelled "," refl) (operand-fits b))
+with-two a b h k = joined h (behind-two a b k)
 
 one-fits : {name : List ℕ} (a : Operand) → Name name → Line (one name a)
 one-fits a h = wider (with-one a h (operand-fits a)) tt
@@ -238,8 +246,8 @@ two-fits a b h = wider (with-two a b h (operand-fits a)) tt
 
 -- the first of three is a register
 three-fits : {name : List ℕ} (a b c : Operand) → Fits 3 name → Fits 3 (operandText a) → Line (three name a b c)
-unfolding three
-three-fits a b c h k = wider (joined (with-two a b h k) (joined (spelled "," refl) (operand-fits c))) tt
+unfolding three afterThree
+three-fits a b c h k = wider (joined h (joined (behind-two a b k) (joined (spelled "," refl) (operand-fits c)))) tt
 
 -- ---- names
 
