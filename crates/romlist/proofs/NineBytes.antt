@@ -1,24 +1,32 @@
 -- No instruction has more than nine bytes: three prefixes, a first byte, and at most five behind it in every row of the tables.
 use Prim.Native.Nat.{ℕ, zero, suc, _≤_}
-use mathlib.Core.Path.{_≡_, subst}
-use mathlib.Core.List.{List, _++_}
+use mathlib.Core.Path.{_≡_, refl}
+use mathlib.Core.Bool.{true}
+use mathlib.Core.List.{List, [], _∷_, _++_}
 use mathlib.Core.Option.{Option, none, some}
-use native.Mathlib.Omega.{arith}
-use lib.Dec.{eqb, lit≤}
+use lib.ListN.{getD}
+use lib.Dec.{eqb}
 use Rattle.sheet.specs.declared.Place.{Place}
+use Rattle.sheet.specs.declared.Place.the-variants.{Memory}
+use Rattle.sheet.specs.declared.Address.the-variants.{Formed}
+use Rattle.sheet.specs.declared.Source.the-variants.{Immediate}
 use Rattle.sheet.specs.declared.Length.{Length}
 use Rattle.sheet.specs.declared.Operation.{Operation}
+use Rattle.sheet.specs.declared.Operation.the-variants.{Add}
+use Rattle.sheet.specs.declared.Arithmetic.the-variants.{Two}
 use Rattle.sheet.specs.declared.Convert.{Convert}
 use Rattle.sheet.specs.declared.Bit.{Bit}
 use Rattle.sheet.specs.declared.Shift.{Shift}
 use Rattle.sheet.specs.declared.Places.{Places}
 use Rattle.sheet.specs.declared.Prefixes.{Prefixes}
 use Rattle.sheet.specs.declared.Instr.{Instr}
-use Rattle.sheet.specs.Reading.{Reading, known, scan}
-use Rattle.sheet.specs.Encoding.{Prefix, unprefixed, withPrefix, regField, Row, lookUp}
+use Rattle.sheet.specs.Groups.{Calculates}
+use Rattle.sheet.specs.Registers.{inDs1}
+use Rattle.sheet.specs.Reading.{Reading, known, scan, lengthOf, word, _>>=_}
+use Rattle.sheet.specs.Encoding.{Prefix, prefixOf, unprefixed, withPrefix, regField, place, inMemory, address, withDisplacement, displacement, formed, Row, lookUp}
 use Rattle.sheet.specs.SecondByte.{withPlain, bitInCl, bitGiven, fieldInRegister, fieldGiven, secondBytes}
-use Rattle.sheet.specs.FirstByte.{sixCodes, smallImmediate, withImmediate, withShift, shiftGroup, groupF6, groupFE, groupFF, fromSegment, toSegment, afterTen, withCounted, bytes00, bytes40, bytes80, bytesC0, firstBytes, afterPrefix, prefixed, instruction}
-use Rattle.romlist.proofs.Room.{Room, stop, Scanned, read, scanned, bind, either, spare, nothing, of-byte, of-word, of-immediate, of-signedByte, of-allow, of-place, of-memory, of-plainPlace, Short, ready, into, of-withPlace, of-withMemory, of-withAcc, of-withByte, of-withWord, of-withShort, of-withFar, Rows, none-more, _also_, of-lookUp, both}
+use Rattle.sheet.specs.FirstByte.{operationAt, sixCodes, smallImmediate, withPlace, withImmediate, withShift, shiftGroup, groupF6, groupFE, groupFF, fromSegment, toSegment, afterTen, withCounted, bytes00, bytes40, bytes80, bytesC0, firstBytes, afterPrefix, prefixed, instruction}
+use Rattle.romlist.proofs.Room.{Room, stop, scan-room, bind, either, spare, nothing, of-byte, of-word, of-immediate, of-signedByte, of-allow, of-place, of-memory, of-plainPlace, Short, ready, into, of-withPlace, of-withMemory, of-withAcc, of-withByte, of-withWord, of-withShort, of-withFar, Rows, none-more, _also_, of-lookUp, both}
 
 -- ---- at most four bytes behind 0F
 
@@ -269,8 +277,14 @@ of-instruction : Short 9 instruction
 unfolding instruction
 of-instruction = of-prefixed 3 unprefixed
 
+-- at most nine bytes are read, also where they are refused
+pub nine-read : (src : ℕ → ℕ) → lengthOf (scan instruction src 0) ≤ 9
+nine-read src = scan-room of-instruction src 0
+
 pub nine-bytes : (src : ℕ → ℕ) (i : Instr) (n : ℕ) → scan instruction src 0 ≡ known i n → n ≤ 9
-nine-bytes src i n e = go (subst (Scanned 9 0) e (scanned of-instruction src 0 (lit≤ tt)))
-  where
-    go : Scanned 9 0 (known i n) → n ≤ 9
-    go (read h) = omega arith
+nine-bytes src i n e = rw e at (nine-read src)
+
+-- nine are met: three prefixes, and ADD to memory with a displacement and an immediate of a word each
+pub nine-met : scan instruction (λ j. getD (0x26 ∷ 0x26 ∷ 0x26 ∷ 0x81 ∷ 0x80 ∷ []) j 0) 0 ≡ known (Calculates (Two Add true (Memory (Formed inDs1 0 0)) (Immediate 0))) 9
+unfolding scan instruction prefixed prefixOf afterPrefix lookUp withImmediate withPlace smallImmediate operationAt place inMemory address withDisplacement displacement formed word _>>=_
+nine-met = refl

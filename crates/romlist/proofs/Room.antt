@@ -11,7 +11,7 @@ use Rattle.sheet.specs.declared.Source.{Source}
 use Rattle.sheet.specs.declared.Prefixes.{Prefixes}
 use Rattle.sheet.specs.declared.Instr.{Instr}
 use Rattle.sheet.specs.Width.{pick}
-use Rattle.sheet.specs.Reading.{Reading, got, need, no, _>>=_, Read, known, unknown, scan, byte, word, immediate, signedByte, allow}
+use Rattle.sheet.specs.Reading.{Reading, got, need, no, _>>=_, scan, lengthOf, byte, word, immediate, signedByte, allow}
 use Rattle.sheet.specs.Encoding.{modField, memField, displacement, withDisplacement, withOffset, address, inMemory, place, memory, Row, covers, lookUp}
 use Rattle.sheet.specs.SecondByte.{plainPlace}
 use Rattle.sheet.specs.FirstByte.{withPlace, withMemory, withAcc, withByte, withWord, withShort, withFar}
@@ -22,16 +22,11 @@ pub data Room {A : Type 0} : (before after : ℕ) → Reading A → Type 0 where
   then-byte : {m n : ℕ} {k : ℕ → Reading A} → ((b : ℕ) → Room m n (k b)) → Room (suc m) n (need k)
   stop : {m n r : ℕ} → Room m n (no r)
 
--- what is known was read with room left below the top; a refusal may come anywhere
-pub data Scanned {A : Type 0} (top after : ℕ) : Read A → Type 0 where
-  read : {a : A} {j : ℕ} → j + after ≤ top → Scanned top after (known a j)
-  unread : {r j : ℕ} → Scanned top after (unknown r j)
-
-pub scanned : {A : Type 0} {top m n : ℕ} {p : Reading A} → Room m n p → (src : ℕ → ℕ) (i : ℕ) → i + m ≤ top → Scanned top n (scan p src i)
+pub scan-room : {A : Type 0} {m n : ℕ} {p : Reading A} → Room m n p → (src : ℕ → ℕ) (i : ℕ) → lengthOf (scan p src i) ≤ i + m
 unfolding scan
-scanned (done h) src i l = read {j = i} (omega arith)
-scanned (then-byte f) src i l = scanned (f (src i)) src (i + 1) (omega arith)
-scanned stop src i l = unread
+scan-room (done h) src i = omega arith
+scan-room (then-byte f) src i = let h = scan-room (f (src i)) src (i + 1) in omega arith
+scan-room stop src i = omega arith
 
 -- ---- joining
 
