@@ -5,9 +5,9 @@ use mnemonics::of_amount;
 use mnemonics::of_length;
 use mnemonics::of_place;
 use mnemonics::of_places;
+use mnemonics::put_after_place;
 use mnemonics::put_after_place_source;
 use mnemonics::put_after_two;
-use mnemonics::put_one;
 use mnemonics::put_place;
 use mnemonics::put_place_source;
 use mnemonics::put_three;
@@ -24,7 +24,7 @@ use sheet::Place;
 use sheet::Places;
 use sheet::Shift;
 use sheet::Unary;
-ghost use mathlib.Core.List.{[], _∷_};
+ghost use mathlib.Core.Bool.{false};
 ghost use Rattle.line.specs.Adds.{Adds};
 ghost use Rattle.mnemonics.specs.Mnemonics as words;
 
@@ -50,14 +50,14 @@ fn put_operation(line: &mut [u8; 80], at: usize, op: Operation) -> usize
     }
 }
 
-fn put_unary(line: &mut [u8; 80], at: usize, op: Unary, word: bool, to: Place) -> usize
-    ensures { λ r. ⌜ Adds (words.one (words.unaryName op) (words.ofPlace word to)) (now (line .entry)) at r (now (line .exit)) ⌝ }
+fn put_unary(line: &mut [u8; 80], at: usize, op: Unary) -> usize
+    ensures { λ r. ⌜ Adds (words.unaryName op) (now (line .entry)) at r (now (line .exit)) ⌝ }
 {
     match op {
-        Unary::Inc => put_place(line, at, b"INC", word, to),
-        Unary::Dec => put_place(line, at, b"DEC", word, to),
-        Unary::Not => put_place(line, at, b"NOT", word, to),
-        Unary::Neg => put_place(line, at, b"NEG", word, to),
+        Unary::Inc => put_word(line, at, b"INC"),
+        Unary::Dec => put_word(line, at, b"DEC"),
+        Unary::Not => put_word(line, at, b"NOT"),
+        Unary::Neg => put_word(line, at, b"NEG"),
     }
 }
 
@@ -69,7 +69,10 @@ fn put_arithmetic(line: &mut [u8; 80], at: usize, i: Arithmetic) -> usize
             let x = put_operation(line, at, op);
             put_after_place_source(line, x, word, to, from)
         }
-        Arithmetic::One { op, word, to } => put_unary(line, at, op, word, to),
+        Arithmetic::One { op, word, to } => {
+            let x = put_unary(line, at, op);
+            put_after_place(line, x, word, to)
+        }
         Arithmetic::Test { word, left, right } => {
             put_place_source(line, at, b"TEST", word, left, right)
         }

@@ -164,6 +164,9 @@ module _ {line line′ : List ℕ} {at r : ℕ} where
   pub one-known : (name : List ℕ) {a a′ : Operand} → a ≡ a′ → Adds (one name a) line at r line′ → Adds (one name a′) line at r line′
   one-known name e h = rw (← e) h
 
+  pub after-known : {a a′ : Operand} → a ≡ a′ → Adds (after a) line at r line′ → Adds (after a′) line at r line′
+  after-known e h = rw (← e) h
+
   pub after-two-known : {a a′ b b′ : Operand} → a ≡ a′ → b ≡ b′ → Adds (afterTwo a b) line at r line′ → Adds (afterTwo a′ b′) line at r line′
   after-two-known e f h = rw (← e, ← f) h
 

@@ -374,11 +374,18 @@ pub fn target(next: u32, disp: u16) -> Operand
 
 // ---- the operands that most instructions have
 
+pub fn put_after_place(line: &mut [u8; 80], at: usize, word: bool, p: Place) -> usize
+    ensures { λ r. ⌜ Adds (words.after (words.ofPlace word p)) (now (line .entry)) at r (now (line .exit)) ⌝ }
+{
+    let o = of_place(word, p);
+    put_after(line, at, o)
+}
+
 pub fn put_place(line: &mut [u8; 80], at: usize, name: &[u8], word: bool, p: Place) -> usize
     ensures { λ r. ⌜ Adds (words.one (now (name .entry)) (words.ofPlace word p)) (now (line .entry)) at r (now (line .exit)) ⌝ }
 {
-    let o = of_place(word, p);
-    put_one(line, at, name, o)
+    let x = put_word(line, at, name);
+    put_after_place(line, x, word, p)
 }
 
 pub fn put_after_place_source(

@@ -1,2 +1,5 @@
 pub mod LineRestored
 pub mod RoundTrip
+pub mod Room
+pub mod NineBytes
+pub mod EngineReads

@@ -1,21 +1,21 @@
 use Rattle.line.proofs.Laws.{adds-known}
 use Rattle.mnemonics.specs.Mnemonics.{arithmeticText}
-use Rattle.mnemonics.proofs.Laws.{two-added}
+use Rattle.mnemonics.proofs.Laws.{one-added, two-added}
 use borrow.Author.Needs.{needs}
 use Rattle.compute_words.proofs.put_arithmetic.Statement.{statement}
 use Rattle.compute_words.proofs.put_arithmetic.Tie as tie
 
 returns : tie.Need-returns
 unfolding arithmeticText
-returns c = search (adds-known arithmeticText, two-added, needs)
+returns c = search (adds-known arithmeticText, one-added, two-added, needs)
 
 returns-2 : tie.Need-returns-2
 unfolding arithmeticText
-returns-2 c = search (adds-known arithmeticText, two-added, needs)
+returns-2 c = search (adds-known arithmeticText, one-added, two-added, needs)
 
 returns-3 : tie.Need-returns-3
 unfolding arithmeticText
-returns-3 c = search (adds-known arithmeticText, two-added, needs)
+returns-3 c = search (adds-known arithmeticText, one-added, two-added, needs)
 
 pub put-arithmetic-spec : {M : Type 1} → statement M
 put-arithmetic-spec =
@@ -25,6 +25,7 @@ put-arithmetic-spec =
     (λ c κs. search needs)
     (λ c κs. search needs)
     (λ c. search needs)
+    (λ c κs. search needs)
     (λ c κs. search needs)
     (λ c. search needs)
     (λ c. search needs)

@@ -6,19 +6,19 @@ use Rattle.compute_words.proofs.put_unary.Tie as tie
 
 returns : tie.Need-returns
 unfolding unaryName
-returns c = search (adds-known (λ o. one (unaryName o) _), needs)
+returns c = search (adds-known unaryName, needs)
 
 returns-2 : tie.Need-returns-2
 unfolding unaryName
-returns-2 c = search (adds-known (λ o. one (unaryName o) _), needs)
+returns-2 c = search (adds-known unaryName, needs)
 
 returns-3 : tie.Need-returns-3
 unfolding unaryName
-returns-3 c = search (adds-known (λ o. one (unaryName o) _), needs)
+returns-3 c = search (adds-known unaryName, needs)
 
 returns-4 : tie.Need-returns-4
 unfolding unaryName
-returns-4 c = search (adds-known (λ o. one (unaryName o) _), needs)
+returns-4 c = search (adds-known unaryName, needs)
 
 pub put-unary-spec : {M : Type 1} → statement M
 put-unary-spec =
