@@ -26,6 +26,10 @@ then {x} {y} a b =
 pub adds-known : {I : Type 0} (text : I → List ℕ) {i j : I} {line line′ : List ℕ} {at r : ℕ} → i ≡ j → Adds (text j) line at r line′ → Adds (text i) line at r line′
 adds-known text e h = rw e h
 
+-- likewise where the text also depends on a number
+pub adds-known-at : {I : Type 0} (text : ℕ → I → List ℕ) {n : ℕ} {i j : I} {line line′ : List ℕ} {at r : ℕ} → i ≡ j → Adds (text n j) line at r line′ → Adds (text n i) line at r line′
+adds-known-at text {n} = adds-known (text n)
+
 pub byte-added : (line : List ℕ) (at b : ℕ) → at < 80 → Adds (b ∷ []) line at (at + 1) (set line at b)
 byte-added line at b m =
     record {

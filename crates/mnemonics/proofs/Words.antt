@@ -66,7 +66,7 @@ use Rattle.mnemonics.specs.declared.Size.the-variants.{Unsaid, Byte, Wor
 use Rattle.mnemonics.specs.declared.Operand.{Operand}
 use Rattle.mnemonics.specs.declared.Operand.the-variants.{Reg, Seg, Mem, Block, Value, Once, Target, Far}
 use Rattle.mnemonics.specs.Operands.{byteRegisters, wordRegisters, segments, letter, registerText, segmentText, sizeText, indexText, formText, dispText, opening, within, formedText, addressText, sizeOf, operandText}
-use Rattle.mnemonics.specs.Mnemonics.{after, afterTwo, afterThree, one, two, three, operationName, unaryName, shiftName, bitName, conditionNames, repeatText, transferText, arithmeticText, multiplyText, convertText, decimalText, fieldText, stackText, branchText, conditionalText, interruptText, primitiveText, portText, controlText, computeText, moveText, instrText}
+use Rattle.mnemonics.specs.Mnemonics.{after, afterTwo, afterThree, one, two, three, operationName, unaryName, shiftName, bitName, conditionLetters, conditionLetter, conditionName, repeatText, transferText, arithmeticText, productText, multiplyText, convertText, decimalText, fieldText, pushText, stackText, farText, farAtText, returnText, branchText, conditionalText, interruptText, primitiveText, portText, controlText, computeText, moveText, instrText}
 use Rattle.mnemonics.specs.Printed.{Printed, no-more, and-then}
 
 -- a text of at most n characters, all of them printed
@@ -317,7 +317,7 @@ arithmetic-fits (arithmetic.One op w to) = one-fits _ (unary-fits op)
 arithmetic-fits (arithmetic.Test w left right) = two-fits _ _ (word refl)
 
 multiply-fits : (i : Multiply) → Line (multiplyText i)
-unfolding multiplyText
+unfolding multiplyText productText
 multiply-fits (Mulu w by) = one-fits _ (word refl)
 multiply-fits (Mul w by) = one-fits _ (word refl)
 multiply-fits (MulByte reg p by) = three-fits _ _ _ (word refl) (reg-fits true reg)
@@ -350,7 +350,7 @@ field-fits (Ins offset n) = three-fits _ _ _ (word refl) (reg-fits false offset)
 field-fits (Ext seg offset n) = three-fits _ _ _ (word refl) (reg-fits false offset)
 
 stack-fits : (i : Stack) → Line (stackText i)
-unfolding stackText
+unfolding stackText pushText
 stack-fits (Push p) = one-fits _ (word refl)
 stack-fits (PushByte v) = one-fits _ (word refl)
 stack-fits (PushWord v) = one-fits _ (word refl)
@@ -365,7 +365,7 @@ stack-fits (Prepare size level) = two-fits _ _ (word refl)
 stack-fits Dispose = word refl
 
 branch-fits : (next : ℕ) (i : Branch) → Line (branchText next i)
-unfolding branchText
+unfolding branchText farText farAtText returnText
 branch-fits next (CallNear disp) = one-fits _ (word refl)
 branch-fits next (CallTo p) = one-fits _ (word refl)
 branch-fits next (CallFar ps pc) = one-fits _ (word refl)
@@ -380,9 +380,30 @@ branch-fits next (BrTo p) = one-fits _ (word refl)
 branch-fits next (BrFar ps pc) = one-fits _ (word refl)
 branch-fits next (BrFarAt at) = one-fits _ (word refl)
 
+condition-printed : (i : ℕ) → i < 48 → 32 ≤ conditionLetter i
+unfolding conditionLetter
+condition-printed i m = printed-at conditionLetters i refl m
+
+condition-fits : (n : ℕ) → Fits 3 (conditionName n)
+unfolding conditionName
+condition-fits n = go (eqb (conditionLetter (3 * (n % 16) + 2)) 32)
+  where
+    first : 32 ≤ conditionLetter (3 * (n % 16))
+    first = condition-printed _ (omega arith)
+
+    second : 32 ≤ conditionLetter (3 * (n % 16) + 1)
+    second = condition-printed _ (omega arith)
+
+    third : 32 ≤ conditionLetter (3 * (n % 16) + 2)
+    third = condition-printed _ (omega arith)
+
+    go : (b : Bool) → Fits 3 (conditionLetter (3 * (n % 16)) ∷ conditionLetter (3 * (n % 16) + 1) ∷ pick b [] (conditionLetter (3 * (n % 16) + 2) ∷ []))
+    go true = record { short = lit≤ tt; printed = and-then first (and-then second no-more) }
+    go false = record { short = lit≤ tt; printed = and-then first (and-then second (and-then third no-more)) }
+
 conditional-fits : (next : ℕ) (i : Conditional) → Line (conditionalText next i)
 unfolding conditionalText
-conditional-fits next (If condition disp) = one-fits _ (word-at conditionNames (condition % 16) refl)
+conditional-fits next (If condition disp) = one-fits _ (wider (condition-fits condition) tt)
 conditional-fits next (Dbnzne disp) = one-fits _ (word refl)
 conditional-fits next (Dbnze disp) = one-fits _ (word refl)
 conditional-fits next (Dbnz disp) = one-fits _ (word refl)

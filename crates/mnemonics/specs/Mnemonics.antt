@@ -1,9 +1,10 @@
 -- Instructions as text: NEC's mnemonic and operands, in the order of the sheet's columns.
-use Prim.Native.Nat.{ℕ, _+_, _-_, _%_}
+use Prim.Native.Nat.{ℕ, _+_, _*_, _%_}
 use mathlib.Core.Bool.{Bool, true, false}
 use mathlib.Core.List.{List, [], _∷_, _++_}
 use lib.ListN.{getD}
-use lib.Dec.{ltb}
+use lib.Dec.{ltb, eqb}
+use Rattle.sheet.specs.declared.Address.{Address}
 use Rattle.sheet.specs.declared.Place.{Place}
 use Rattle.sheet.specs.declared.Place.the-variants.{Register, Memory}
 use Rattle.sheet.specs.declared.Source.{Source}
@@ -113,8 +114,11 @@ unfoldable pub ofLength : Length → Operand
 ofLength (length.InRegister n) = Reg false n
 ofLength (length.Given n) = Value false n
 
+abbrev pub inDw : Operand
+inDw = Reg true DW
+
 unfoldable pub ofPort : Port → Operand
-ofPort InDw = Reg true DW
+ofPort InDw = inDw
 ofPort (Numbered n) = Value false n
 
 -- strings and blocks: what IY points to in DS1, and what IX points to in a segment
@@ -165,11 +169,14 @@ arithmeticText (arithmetic.One op w to) = one (unaryName op) (ofPlace w to)
 arithmeticText (arithmetic.Test w left right) = two (text "TEST") (ofPlace w left) (ofSource w right)
 
 -- an immediate byte of MUL is widened with its sign
+unfoldable pub productText : (reg : ℕ) → Place → (by : ℕ) → List ℕ
+productText reg p by = three (text "MUL") (Reg true reg) (ofPlace true p) (Value true by)
+
 unfoldable pub multiplyText : Multiply → List ℕ
 multiplyText (Mulu w by) = one (text "MULU") (ofPlace w by)
 multiplyText (Mul w by) = one (text "MUL") (ofPlace w by)
-multiplyText (MulByte reg p by) = three (text "MUL") (Reg true reg) (ofPlace true p) (Value true by)
-multiplyText (MulWord reg p by) = three (text "MUL") (Reg true reg) (ofPlace true p) (Value true by)
+multiplyText (MulByte reg p by) = productText reg p by
+multiplyText (MulWord reg p by) = productText reg p by
 multiplyText (Divu w by) = one (text "DIVU") (ofPlace w by)
 multiplyText (Div w by) = one (text "DIV") (ofPlace w by)
 
@@ -210,10 +217,14 @@ unfoldable pub fieldText : Field → List ℕ
 fieldText (Ins offset n) = three (text "INS") (Reg false offset) (ofLength n) (inDs1 true)
 fieldText (Ext seg offset n) = three (text "EXT") (Reg false offset) (ofLength n) (from true seg)
 
+-- an immediate byte of PUSH is widened with its sign
+unfoldable pub pushText : ℕ → List ℕ
+pushText v = one (text "PUSH") (Value true v)
+
 unfoldable pub stackText : Stack → List ℕ
 stackText (Push p) = one (text "PUSH") (ofPlace true p)
-stackText (PushByte v) = one (text "PUSH") (Value true v)
-stackText (PushWord v) = one (text "PUSH") (Value true v)
+stackText (PushByte v) = pushText v
+stackText (PushWord v) = pushText v
 stackText (PushSegment seg) = one (text "PUSH") (Seg seg)
 stackText PushPsw = text "PUSH PSW"
 stackText PushR = text "PUSH R"
@@ -224,27 +235,44 @@ stackText PopR = text "POP R"
 stackText (Prepare size level) = two (text "PREPARE") (Value true size) (Value false level)
 stackText Dispose = text "DISPOSE"
 
+unfoldable pub farText : List ℕ → (ps pc : ℕ) → List ℕ
+farText name ps pc = one name (Far ps pc)
+
+unfoldable pub farAtText : List ℕ → Address → List ℕ
+farAtText name at = one name (Mem Pair at)
+
+unfoldable pub returnText : ℕ → List ℕ
+returnText size = one (text "RET") (Value true size)
+
 unfoldable pub branchText : (next : ℕ) → Branch → List ℕ
 branchText next (CallNear disp) = one (text "CALL") (target next disp)
 branchText next (CallTo p) = one (text "CALL") (ofPlace true p)
-branchText next (CallFar ps pc) = one (text "CALL") (Far ps pc)
-branchText next (CallFarAt at) = one (text "CALL") (Mem Pair at)
+branchText next (CallFar ps pc) = farText (text "CALL") ps pc
+branchText next (CallFarAt at) = farAtText (text "CALL") at
 branchText next Ret = text "RET"
-branchText next (RetPop size) = one (text "RET") (Value true size)
+branchText next (RetPop size) = returnText size
 branchText next RetFar = text "RET"
-branchText next (RetFarPop size) = one (text "RET") (Value true size)
+branchText next (RetFarPop size) = returnText size
 branchText next (BrNear disp) = one (text "BR") (target next disp)
 branchText next (BrShort disp) = one (text "BR") (target next disp)
 branchText next (BrTo p) = one (text "BR") (ofPlace true p)
-branchText next (BrFar ps pc) = one (text "BR") (Far ps pc)
-branchText next (BrFarAt at) = one (text "BR") (Mem Pair at)
+branchText next (BrFar ps pc) = farText (text "BR") ps pc
+branchText next (BrFarAt at) = farAtText (text "BR") at
 
--- by the low four bits of the code
-abbrev pub conditionNames : List (List ℕ)
-conditionNames = text "BV" ∷ text "BNV" ∷ text "BC" ∷ text "BNC" ∷ text "BE" ∷ text "BNE" ∷ text "BNH" ∷ text "BH" ∷ text "BN" ∷ text "BP" ∷ text "BPE" ∷ text "BPO" ∷ text "BLT" ∷ text "BGE" ∷ text "BLE" ∷ text "BGT" ∷ []
+-- by the low four bits of the code: three letters a name, and a name of two is followed by a space
+abbrev pub conditionLetters : List ℕ
+conditionLetters = text "BV BNVBC BNCBE BNEBNHBH BN BP BPEBPOBLTBGEBLEBGT"
+
+unfoldable pub conditionLetter : ℕ → ℕ
+conditionLetter i = getD conditionLetters i 0
+
+unfoldable pub conditionName : ℕ → List ℕ
+conditionName n =
+    let i = 3 * (n % 16) in
+    conditionLetter i ∷ conditionLetter (i + 1) ∷ pick (eqb (conditionLetter (i + 2)) 32) [] (conditionLetter (i + 2) ∷ [])
 
 unfoldable pub conditionalText : (next : ℕ) → Conditional → List ℕ
-conditionalText next (If condition disp) = one (getD conditionNames (condition % 16) []) (target next disp)
+conditionalText next (If condition disp) = one (conditionName condition) (target next disp)
 conditionalText next (Dbnzne disp) = one (text "DBNZNE") (target next disp)
 conditionalText next (Dbnze disp) = one (text "DBNZE") (target next disp)
 conditionalText next (Dbnz disp) = one (text "DBNZ") (target next disp)
@@ -271,8 +299,8 @@ primitiveText Cmpbk w seg = two (text "CMPBK") (from w seg) (inDs1 w)
 primitiveText Cmpm w seg = one (text "CMPM") (inDs1 w)
 primitiveText Ldm w seg = one (text "LDM") (from w seg)
 primitiveText Stm w seg = one (text "STM") (inDs1 w)
-primitiveText Inm w seg = two (text "INM") (inDs1 w) (Reg true DW)
-primitiveText Outm w seg = two (text "OUTM") (Reg true DW) (from w seg)
+primitiveText Inm w seg = two (text "INM") (inDs1 w) inDw
+primitiveText Outm w seg = two (text "OUTM") inDw (from w seg)
 
 unfoldable pub portText : Io → List ℕ
 portText (In w port) = two (text "IN") (acc w) (ofPort port)

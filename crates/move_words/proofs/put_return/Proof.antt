@@ -1,0 +1,11 @@
+use Rattle.mnemonics.specs.Mnemonics.{returnText}
+use borrow.Author.Needs.{needs}
+use Rattle.move_words.proofs.put_return.Statement.{statement}
+use Rattle.move_words.proofs.put_return.Tie as tie
+
+returns : tie.Need-returns
+unfolding returnText
+returns c = search needs
+
+pub put-return-spec : {M : Type 1} → statement M
+put-return-spec = tie.close (tie.spec (λ c. search needs) (λ c κs. search needs) returns)
