@@ -2,6 +2,7 @@
 use answers::Decoded;
 use sheet::Amount;
 use sheet::Bit;
+use sheet::Compute;
 use sheet::Decimal;
 use sheet::Field;
 use sheet::Length;
@@ -39,10 +40,26 @@ fn bits(ram: &[u8], rom: &[u8], ps: u16, pc: u16, p: Prefixes, b: u8, i: u16) ->
         _ => Bit::Not1,
     };
     if b < 0x18 {
-        return answers::bits(op, word, place, Amount::InCl, o.next);
+        return answers::computes(
+            Compute::Bits {
+                op: op,
+                word: word,
+                to: place,
+                number: Amount::InCl,
+            },
+            o.next,
+        );
     }
     let number = fetch::code_byte(ram, rom, ps, pc, o.next);
-    answers::bits(op, word, place, Amount::Given(number), o.next + 1)
+    answers::computes(
+        Compute::Bits {
+            op: op,
+            word: word,
+            to: place,
+            number: Amount::Given(number),
+        },
+        o.next + 1,
+    )
 }
 
 // ROL4 and ROR4.
@@ -60,7 +77,7 @@ fn rotated(ram: &[u8], rom: &[u8], ps: u16, pc: u16, p: Prefixes, left: bool, i:
     } else {
         Decimal::Ror4 { to: place }
     };
-    answers::decimals(group, o.next)
+    answers::computes(Compute::Decimals(group), o.next)
 }
 
 // EXT and INS.
@@ -79,7 +96,7 @@ fn field(ext: bool, seg: u8, offset: u8, length: Length, size: u16) -> Decoded
             length: length,
         }
     };
-    answers::fields(group, size)
+    answers::computes(Compute::Fields(group), size)
 }
 
 // A byte 11 reg' reg.
@@ -102,7 +119,7 @@ fn field_given(ram: &[u8], rom: &[u8], ps: u16, pc: u16, ext: bool, seg: u8, i: 
     let m = fetch::code_byte(ram, rom, ps, pc, i);
     let n = fetch::code_byte(ram, rom, ps, pc, i + 1);
     if m / 8 == 24 {
-        return field(ext, seg, m % 8, Length::Given(n), i + 1 + 1);
+        return field(ext, seg, m % 8, Length::Given(n), i + 2);
     }
     Decoded::Unknown { number: 3 }
 }
@@ -119,16 +136,14 @@ pub fn codes0f(ram: &[u8], rom: &[u8], ps: u16, pc: u16, p: Prefixes, b: u8, i: 
     }
     let seg = p.seg;
     let source = places::seg_or(seg, DS0);
-    match b {
-        0x20 => answers::decimals(Decimal::Add4s { seg: source }, i),
-        0x22 => answers::decimals(Decimal::Sub4s { seg: source }, i),
-        0x26 => answers::decimals(Decimal::Cmp4s { seg: source }, i),
-        0x28 => rotated(ram, rom, ps, pc, p, true, i),
-        0x2a => rotated(ram, rom, ps, pc, p, false, i),
-        0x31 => field_register(ram, rom, ps, pc, false, source, i),
-        0x33 => field_register(ram, rom, ps, pc, true, source, i),
-        0x39 => field_given(ram, rom, ps, pc, false, source, i),
-        0x3b => field_given(ram, rom, ps, pc, true, source, i),
-        _ => Decoded::Unknown { number: 3 },
-    }
+    let group = match b {
+        0x20 => Decimal::Add4s { seg: source },
+        0x22 => Decimal::Sub4s { seg: source },
+        0x26 => Decimal::Cmp4s { seg: source },
+        0x28 | 0x2a => return rotated(ram, rom, ps, pc, p, b == 0x28, i),
+        0x31 | 0x33 => return field_register(ram, rom, ps, pc, b == 0x33, source, i),
+        0x39 | 0x3b => return field_given(ram, rom, ps, pc, b == 0x3b, source, i),
+        _ => return Decoded::Unknown { number: 3 },
+    };
+    answers::computes(Compute::Decimals(group), i)
 }

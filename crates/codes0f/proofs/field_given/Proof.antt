@@ -1,10 +1,11 @@
+use native.Mathlib.Nat.{add-assoc}
 use Rattle.codes0f.proofs.Laws.{field-given, no-given}
 use borrow.Author.Needs.{needs}
 use Rattle.codes0f.proofs.field_given.Statement.{statement}
 use Rattle.codes0f.proofs.field_given.Tie as tie
 
 returns : tie.Need-returns
-returns c = field-given _ (c .before .before .before .code-byte .ensures) (search needs) (c .before .before .code-byte2 .ensures) (c .field .ensures)
+returns c = field-given _ (c .before .before .before .code-byte .ensures) (search needs) (rw (add-assoc (c .before .before .before .before .before .before .args .i) 1 1) at (c .before .before .code-byte2 .ensures)) (c .field .ensures)
 
 returns-2 : tie.Need-returns-2
 returns-2 c = no-given _ (c .before .before .code-byte .ensures) (search needs)
@@ -16,7 +17,6 @@ field-given-spec =
     (λ c κs. search needs)
     (λ c. search needs)
     (λ c κs. search needs)
-    (λ c. search needs)
     (λ c. search needs)
     (λ c κs. search needs)
     returns
