@@ -7,7 +7,6 @@ use sheet::Decimal;
 use sheet::Field;
 use sheet::Length;
 use sheet::Prefixes;
-ghost use mathlib.Core.Path.{_≡_};
 ghost use Prim.Native.Nat.{_≤_, _<_};
 ghost use Rattle.sheet.specs.Groups.{Decimals};
 ghost use Rattle.sheet.specs.declared.Decimal.the-variants.{Rol4, Ror4};
@@ -15,7 +14,6 @@ ghost use Rattle.sheet.specs.Width.{pick};
 ghost use Rattle.sheet.specs.Reading.{got};
 ghost use Rattle.sheet.specs.Step.{codeByte};
 ghost use Rattle.sheet.specs.SecondByte.{withPlain, fieldInRegister, fieldGiven, secondBytes};
-ghost use Rattle.answers.specs.declared.Decoded.the-variants.{Known};
 ghost use Rattle.answers.specs.Answer.{Decodes, Names};
 ghost use Rattle.codes0f.specs.Fields.{fieldOf};
 
@@ -80,10 +78,34 @@ fn rotated(ram: &[u8], rom: &[u8], ps: u16, pc: u16, p: Prefixes, left: bool, i:
     answers::computes(Compute::Decimals(group), o.next)
 }
 
-// EXT and INS.
-fn field(ext: bool, seg: u8, offset: u8, length: Length, size: u16) -> Decoded
-    ensures { λ r. ⌜ r ≡ Known (fieldOf ext seg offset length) size ⌝ }
+// EXT and INS: a byte 11 reg' reg, or 11 000 reg and the length.
+fn field(
+    ram: &[u8],
+    rom: &[u8],
+    ps: u16,
+    pc: u16,
+    ext: bool,
+    given: bool,
+    seg: u8,
+    i: u16,
+) -> Decoded
+    requires { ⌜ i ≤ 5 ⌝ }
+    ensures { λ r. ⌜ Decodes (pick given (fieldGiven (λ o l. got (fieldOf ext seg o l))) (fieldInRegister (λ o l. got (fieldOf ext seg o l)))) (codeByte (now (ram .entry)) (now (rom .entry)) ps pc) i r ⌝ }
 {
+    let m = fetch::code_byte(ram, rom, ps, pc, i);
+    if m / 64 != 3 {
+        return Decoded::Unknown { number: 3 };
+    }
+    let length = if given {
+        if m / 8 != 24 {
+            return Decoded::Unknown { number: 3 };
+        }
+        Length::Given(fetch::code_byte(ram, rom, ps, pc, i + 1))
+    } else {
+        Length::InRegister(m / 8 % 8)
+    };
+    let next = if given { i + 2 } else { i + 1 };
+    let offset = m % 8;
     let group = if ext {
         Field::Ext {
             seg: seg,
@@ -96,32 +118,7 @@ fn field(ext: bool, seg: u8, offset: u8, length: Length, size: u16) -> Decoded
             length: length,
         }
     };
-    answers::computes(Compute::Fields(group), size)
-}
-
-// A byte 11 reg' reg.
-fn field_register(ram: &[u8], rom: &[u8], ps: u16, pc: u16, ext: bool, seg: u8, i: u16) -> Decoded
-    requires { ⌜ i ≤ 5 ⌝ }
-    ensures { λ r. ⌜ Decodes (fieldInRegister (λ o l. got (fieldOf ext seg o l))) (codeByte (now (ram .entry)) (now (rom .entry)) ps pc) i r ⌝ }
-{
-    let m = fetch::code_byte(ram, rom, ps, pc, i);
-    if m / 64 == 3 {
-        return field(ext, seg, m % 8, Length::InRegister(m / 8 % 8), i + 1);
-    }
-    Decoded::Unknown { number: 3 }
-}
-
-// A byte 11 000 reg, and the length.
-fn field_given(ram: &[u8], rom: &[u8], ps: u16, pc: u16, ext: bool, seg: u8, i: u16) -> Decoded
-    requires { ⌜ i ≤ 5 ⌝ }
-    ensures { λ r. ⌜ Decodes (fieldGiven (λ o l. got (fieldOf ext seg o l))) (codeByte (now (ram .entry)) (now (rom .entry)) ps pc) i r ⌝ }
-{
-    let m = fetch::code_byte(ram, rom, ps, pc, i);
-    let n = fetch::code_byte(ram, rom, ps, pc, i + 1);
-    if m / 8 == 24 {
-        return field(ext, seg, m % 8, Length::Given(n), i + 2);
-    }
-    Decoded::Unknown { number: 3 }
+    answers::computes(Compute::Fields(group), next)
 }
 
 pub fn codes0f(ram: &[u8], rom: &[u8], ps: u16, pc: u16, p: Prefixes, b: u8, i: u16) -> Decoded
@@ -141,8 +138,8 @@ pub fn codes0f(ram: &[u8], rom: &[u8], ps: u16, pc: u16, p: Prefixes, b: u8, i: 
         0x22 => Decimal::Sub4s { seg: source },
         0x26 => Decimal::Cmp4s { seg: source },
         0x28 | 0x2a => return rotated(ram, rom, ps, pc, p, b == 0x28, i),
-        0x31 | 0x33 => return field_register(ram, rom, ps, pc, b == 0x33, source, i),
-        0x39 | 0x3b => return field_given(ram, rom, ps, pc, b == 0x3b, source, i),
+        0x31 | 0x33 => return field(ram, rom, ps, pc, b == 0x33, false, source, i),
+        0x39 | 0x3b => return field(ram, rom, ps, pc, b == 0x3b, true, source, i),
         _ => return Decoded::Unknown { number: 3 },
     };
     answers::computes(Compute::Decimals(group), i)

@@ -50,6 +50,7 @@ pub fn codesd0(ram: &[u8], rom: &[u8], ps: u16, pc: u16, p: Prefixes, b: u8, i: 
         return shift_fixed(ram, rom, ps, pc, p, places, b, i);
     }
     if b < 0xd6 {
+        // D4 and D5 are followed by 0Ah
         let ten = fetch::code_byte(ram, rom, ps, pc, i);
         if ten != 0x0a {
             return Decoded::Unknown { number: 3 };

@@ -15,10 +15,10 @@ returns-3 : tie.Need-returns-3
 returns-3 c = ⊎-elim (λ e. at-one 0x28 refl refl e (rw e at (c .rotated .ensures))) (λ e. at-one 0x2a refl refl e (rw e at (c .rotated .ensures))) (c .before .match .keys4)
 
 returns-4 : tie.Need-returns-4
-returns-4 c = ⊎-elim (λ e. at-one 0x31 refl refl e (rw e at (c .field-register .ensures))) (λ e. at-one 0x33 refl refl e (rw (e, c .before .before .seg-or .ensures) at (c .field-register .ensures))) (c .before .match .keys5)
+returns-4 c = ⊎-elim (λ e. at-one 0x31 refl refl e (rw e at (c .field .ensures))) (λ e. at-one 0x33 refl refl e (rw (e, c .before .before .seg-or .ensures) at (c .field .ensures))) (c .before .match .keys5)
 
 returns-5 : tie.Need-returns-5
-returns-5 c = ⊎-elim (λ e. at-one 0x39 refl refl e (rw e at (c .field-given .ensures))) (λ e. at-one 0x3b refl refl e (rw (e, c .before .before .seg-or .ensures) at (c .field-given .ensures))) (c .before .match .keys6)
+returns-5 c = ⊎-elim (λ e. at-one 0x39 refl refl e (rw e at (c .field2 .ensures))) (λ e. at-one 0x3b refl refl e (rw (e, c .before .before .seg-or .ensures) at (c .field2 .ensures))) (c .before .match .keys6)
 
 returns-6 : tie.Need-returns-6
 returns-6 c = at-rest 0x20 224 ((0x20 ∷ []) ∷ (0x22 ∷ []) ∷ (0x26 ∷ []) ∷ (0x28 ∷ 0x2a ∷ []) ∷ (0x31 ∷ 0x33 ∷ []) ∷ (0x39 ∷ 0x3b ∷ []) ∷ []) refl (c .match .rest) (search needs) (search needs)
