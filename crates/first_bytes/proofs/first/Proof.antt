@@ -1,8 +1,8 @@
 use native.Mathlib.Omega.{arith}
-use Rattle.decode.proofs.Laws.{from-00, from-40, from-80, from-c0}
+use Rattle.first_bytes.proofs.Laws.{from-00, from-40, from-80, from-c0}
 use borrow.Author.Needs.{needs}
-use Rattle.decode.proofs.first.Statement.{statement}
-use Rattle.decode.proofs.first.Tie as tie
+use Rattle.first_bytes.proofs.first.Statement.{statement}
+use Rattle.first_bytes.proofs.first.Tie as tie
 
 returns : tie.Need-returns
 returns c = from-00 _ (search needs) (c .codes00 .ensures)
