@@ -1,7 +1,7 @@
-use Rattle.session.proofs.TurnLaws.{budget-is}
+use Rattle.turns.proofs.BudgetLaws.{budget-is}
 use borrow.Author.Needs.{needs}
-use Rattle.session.proofs.budget.Statement.{statement}
-use Rattle.session.proofs.budget.Tie as tie
+use Rattle.turns.proofs.budget.Statement.{statement}
+use Rattle.turns.proofs.budget.Tie as tie
 
 returns : tie.Need-returns
 returns c = budget-is _ _ _ (c .before .before .before .above .ensures) (c .before .before .above2 .ensures) (c .before .least .ensures) (c .least2 .ensures)

@@ -1,7 +1,7 @@
-use Rattle.session.specs.Turns.{ranBy}
+use Rattle.turns.specs.Stand.{ranBy}
 use borrow.Author.Needs.{needs}
-use Rattle.session.proofs.after.Statement.{statement}
-use Rattle.session.proofs.after.Tie as tie
+use Rattle.turns.proofs.after.Statement.{statement}
+use Rattle.turns.proofs.after.Tie as tie
 
 returns : tie.Need-returns
 unfolding ranBy

@@ -1,8 +1,8 @@
 use borrow.Author.Tests.{le-ltb, lt-ltb}
-use Rattle.session.specs.Turns.{nextOf}
+use Rattle.turns.specs.Stand.{nextOf}
 use borrow.Author.Needs.{needs}
-use Rattle.session.proofs.upcoming.Statement.{statement}
-use Rattle.session.proofs.upcoming.Tie as tie
+use Rattle.turns.proofs.upcoming.Statement.{statement}
+use Rattle.turns.proofs.upcoming.Tie as tie
 
 returns : tie.Need-returns
 unfolding nextOf

@@ -1,6 +1,6 @@
 use borrow.Author.Tests.{eq-eqb, ne-eqb}
-use Rattle.session.proofs.refusals.Statement.{statement}
-use Rattle.session.proofs.refusals.Tie as tie
+use Rattle.turns.proofs.refusals.Statement.{statement}
+use Rattle.turns.proofs.refusals.Tie as tie
 
 returns : tie.Need-returns
 returns c = rw (eq-eqb _ 0 (c .if1 .taken))

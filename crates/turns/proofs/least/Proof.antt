@@ -1,6 +1,6 @@
 use native.Mathlib.Omega.{arith}
-use Rattle.session.proofs.least.Statement.{statement}
-use Rattle.session.proofs.least.Tie as tie
+use Rattle.turns.proofs.least.Statement.{statement}
+use Rattle.turns.proofs.least.Tie as tie
 
 returns : tie.Need-returns
 returns c = omega arith

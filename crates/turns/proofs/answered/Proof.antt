@@ -1,7 +1,7 @@
-use Rattle.session.specs.Turns.{answeredBy}
+use Rattle.turns.specs.Stand.{answeredBy}
 use borrow.Author.Needs.{needs}
-use Rattle.session.proofs.answered.Statement.{statement}
-use Rattle.session.proofs.answered.Tie as tie
+use Rattle.turns.proofs.answered.Statement.{statement}
+use Rattle.turns.proofs.answered.Tie as tie
 
 returns : tie.Need-returns
 unfolding answeredBy
