@@ -273,7 +273,7 @@ impl Reader<'_> {
             }
             0x8F => format!("POP {}", self.operands()?.with_zero_reg()?.place(Word)),
             0x90 => "NOP".to_string(),
-            0x91..=0x97 => format!("XCH AW,{}", Word.register(low_code)),
+            0x91..=0x97 => format!("XCH {},AW", Word.register(low_code)),
             0x98 => "CVTBW".to_string(),
             0x99 => "CVTWL".to_string(),
             0x9A => format!("CALL {}", self.far_address()?),
@@ -386,15 +386,11 @@ impl Reader<'_> {
         Ok(format!("{name} {register},{}", operands.place(size)))
     }
 
-    /// The sheet names the reg field first beside a register and last beside memory.
+    /// The register of the reg field first, an order that each of XCH's rows has.
     fn exchange(&mut self, size: Size) -> Reading<String> {
         let operands = self.operands()?;
         let (register, place) = (operands.register(size), operands.place(size));
-        Ok(if operands.is_register() {
-            format!("XCH {register},{place}")
-        } else {
-            format!("XCH {place},{register}")
-        })
+        Ok(format!("XCH {register},{place}"))
     }
 
     fn pointer_load(&mut self, segment: &str) -> Reading<String> {

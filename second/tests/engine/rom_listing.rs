@@ -140,9 +140,9 @@ fn transfers() {
         (&[0x8D, 0x40, 0x12], "LDEA AW,DS0:[BW+IX+0012]"),
         (&[0xD7], "TRANS BYTE DS0:[BW]"),
         (&[0x86, 0xC1], "XCH AL,CL"),
-        (&[0x87, 0x17], "XCH WORD DS0:[BW],DW"),
-        (&[0x91], "XCH AW,CW"),
-        (&[0x97], "XCH AW,IY"),
+        (&[0x87, 0x17], "XCH DW,WORD DS0:[BW]"),
+        (&[0x91], "XCH CW,AW"),
+        (&[0x97], "XCH IY,AW"),
         (&[0x90], "NOP"),
     ]);
 }
