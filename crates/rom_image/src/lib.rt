@@ -1,6 +1,7 @@
 // The reader of a listing: the image that its lines name.
 ghost use mathlib.Core.Path.{_≡_};
 ghost use Rattle.romlist.specs.Restored.{digitOf, isDigit};
+ghost use Rattle.rom_image.specs.Agrees.{Begins};
 ghost use Rattle.rom_image.specs.Restores.{endsByte, highAfter, Restores};
 
 // The value of a hex digit.
@@ -86,4 +87,21 @@ pub fn restore(lines: &[u8], image: &mut [u8]) -> Restored
         high = high_after(here, high, c);
     }
     Restored { fits: true, len }
+}
+
+// Whether s begins with x.
+fn begins(s: &[u8], x: &[u8]) -> bool
+    ensures { λ r. ⌜ Begins (now (x .entry)) (now (s .entry)) r ⌝ }
+{
+    if s.len() < x.len() {
+        return false;
+    }
+    let mut i = 0;
+    while i < x.len() {
+        if s[i] != x[i] {
+            return false;
+        }
+        i = i + 1;
+    }
+    true
 }
