@@ -25,10 +25,10 @@ use Rattle.romlist.proofs.LineRestored.{digit-printed, line-restored}
 
 -- ---- how many bytes a line names
 
-record Sized (n left : ℕ) : Type 0 where
-  some : 1 ≤ n
-  few : n ≤ 9
-  fits : n ≤ left
+pub record Sized (n left : ℕ) : Type 0 where
+  pub some : 1 ≤ n
+  pub few : n ≤ 9
+  pub fits : n ≤ left
 
 sized : (r : Read Instr) (left : ℕ) → 1 ≤ lengthOf r → 1 ≤ left → Sized (sizeOf r left) left
 unfolding sizeOf whole
@@ -53,7 +53,7 @@ first-read : {p : Reading Instr} (src : ℕ → ℕ) → Asks p → 1 ≤ length
 unfolding scan
 first-read src (asks {k = k}) = scan-more (k (src 0)) src 1
 
-size-at : (image : List ℕ) (a : ℕ) → a < top → Sized (sizeAt image a) (top - a)
+pub size-at : (image : List ℕ) (a : ℕ) → a < top → Sized (sizeAt image a) (top - a)
 unfolding sizeAt readAt
 size-at image a h = sized (readAt image a) (top - a) (first-read (codeByte [] image (a / 16) (a % 16)) instruction-asks) (omega arith)
 
