@@ -1,17 +1,25 @@
 -- Lines compared with a listing, line by line. Assumes nothing.
 use Prim.Native.Nat.{ℕ, _+_, _-_, _≤_, _<_, zero-le}
 use mathlib.Core.Path.{_≡_, refl, sym, ap, _∙_}
-use mathlib.Core.Bool.{Bool, true, false, true≢false}
+use mathlib.Core.Bool.{Bool, true, false, not, true≢false}
 use mathlib.Core.List.{List, [], _++_, append-nil, append-assoc}
 use native.Mathlib.Omega.{arith}
 use lib.ListN.{length, take, drop, length-append, length-drop}
 use lib.Seq.{take-all, take-add, take-at, drop-at, length-take-le}
 use lib.Dec.{eqb}
-use borrow.Author.Tests.{eqb-true, eqb-false}
+use borrow.Author.Tests.{eqb-true, eqb-false, not-true, not-false}
+use Rattle.laws.proofs.Parts.{rest}
+use Rattle.rom_line.specs.Makes.{Makes}
+use Rattle.rom_line.proofs.Text.{made}
 use Rattle.romlist.specs.Listing.{top, lineAt, sizeAt, linesFrom, listing}
 use Rattle.romlist.proofs.RoundTrip.{size-at}
 use Rattle.rom_image.specs.Agrees.{Begins, Compares, Agrees}
-use Rattle.rom_image.proofs.Lines.{no-lines, line-and-rest, all-lines}
+use Rattle.romlist.proofs.Lines.{line-short, no-lines, line-and-rest, all-lines}
+
+-- a line that was made, compared with what follows
+module _ {image line line′ : List ℕ} {a r size : ℕ} (h : a < top) (n : length line ≡ 80) (m : Makes image a line r size line′) where
+  pub compared : {s : List ℕ} {b : Bool} → Begins (take r line′) s b → Compares image a s b r size
+  compared b = record { here = rw (made h n m .first) at b; long = made h n m .count; counts = m .counts }
 
 -- the loop's invariant: the listing is the lines up to `at`, and then the lines from address a on
 pub record Agreeing (lines image : List ℕ) (a at : ℕ) : Type 0 where
@@ -24,7 +32,10 @@ pub begun : (lines image : List ℕ) → length image ≤ top → Agreeing lines
 begun lines image h = record { low = omega arith; high = omega arith; place = zero-le; all = all-lines image h }
 
 module _ {lines image : List ℕ} {a at : ℕ} (g : Agreeing lines image a at) where
-  module _ (h : a < top) {b : Bool} {len size : ℕ} (c : Compares image a (drop at lines) b len size) where
+  module _ (h : a < top) {b : Bool} {len size : ℕ} (r : Compares image a (take (length lines - at) (drop at lines)) b len size) where
+    c : Compares image a (drop at lines) b len size
+    c = rw (rest at lines) at r
+
     next : listing image ≡ take at lines ++ (lineAt image a ++ linesFrom (top - (a + sizeAt image a)) image (a + sizeAt image a))
     next = g .all ∙ ap (λ (l : List ℕ). take at lines ++ l) (line-and-rest image a h)
 
@@ -34,10 +45,10 @@ module _ {lines image : List ℕ} {a at : ℕ} (g : Agreeing lines image a at) w
     pub few : size ≤ 9
     few = omega (arith, size-at image a h .few, c .counts)
 
-    pub line-agrees : b ≡ true → Agreeing lines image (a + size) (at + len)
+    pub line-agrees : not b ≡ false → Agreeing lines image (a + size) (at + len)
     line-agrees t =
         let x = lineAt image a in
-        let e = c .here .yes t in
+        let e = c .here .yes (not-false b t) in
         let f : take len (drop at lines) ≡ x = ap (take len) e ∙ take-at x (drop (length x) (drop at lines)) len (sym (c .long)) in
         let n = ap length e ∙ length-append x (drop (length x) (drop at lines)) in
         let fits = size-at image a h .fits in
@@ -49,12 +60,12 @@ module _ {lines image : List ℕ} {a at : ℕ} (g : Agreeing lines image a at) w
           all = next ∙ (sym (append-assoc (take at lines) x _) ∙ ap (λ (l : List ℕ). l ++ linesFrom (top - (a + sizeAt image a)) image (a + sizeAt image a)) (sym (take-add at len lines ∙ ap (λ (l : List ℕ). take at lines ++ l) f)));
         })
 
-    pub line-differs : b ≡ false → Agrees lines image false
+    pub line-differs : not b ≡ true → Agrees lines image false
     line-differs t =
         record {
           yes = λ z. absurd (true≢false (sym z));
           no = λ z e.
-              c .here .no t (linesFrom (top - (a + sizeAt image a)) image (a + sizeAt image a))
+              c .here .no (not-true b t) (linesFrom (top - (a + sizeAt image a)) image (a + sizeAt image a))
               (ap (drop at) (sym e ∙ next) ∙ drop-at (take at lines) _ at (length-take-le at lines (g .place)));
         }
 

@@ -1,5 +1,5 @@
 pub mod Characters
 pub mod Reading
 pub mod Comparing
-pub mod Lines
 pub mod Agreeing
+pub mod Rebuilding

@@ -1,2 +1,3 @@
 pub mod Restores
 pub mod Agrees
+pub mod Rebuilds

@@ -2,6 +2,7 @@
 use Prim.Native.Nat.{_-_}
 use native.Mathlib.Omega.{arith}
 use lib.ListN.{length}
+use borrow.Author.Needs.{needs}
 use Rattle.rom_image.proofs.Comparing.{Alike, too-short, none-compared, one-differs, one-more, all-compared}
 use Rattle.rom_image.proofs.begins.Statement.{statement}
 use Rattle.rom_image.proofs.begins.Tie as tie
@@ -13,10 +14,10 @@ abbrev μ-loop : tie.MeasureT-loop
 μ-loop s x i₀ i = length x - i
 
 returns : tie.Need-returns Inv-loop μ-loop
-returns c = too-short (c .if1 .taken)
+returns c = search (too-short, needs)
 
 loop-holds : tie.Need-loop-holds Inv-loop μ-loop
-loop-holds c = none-compared (c .if1 .left)
+loop-holds c = search (none-compared, needs)
 
 shared-slice-read-if2 : tie.Need-shared-slice-read-if2 Inv-loop μ-loop
 shared-slice-read-if2 c = omega (arith, c .before .before .loop .inv .room)
@@ -25,7 +26,7 @@ shared-slice-read-if2-2 : tie.Need-shared-slice-read-if2-2 Inv-loop μ-loop
 shared-slice-read-if2-2 c = omega arith
 
 returns-2 : tie.Need-returns-2 Inv-loop μ-loop
-returns-2 c = one-differs (c .before .before .before .before .loop .inv) (c .before .before .before .loop-test .taken) (c .if2 .taken)
+returns-2 c = search (one-differs, needs)
 
 add-i : tie.Need-add-i Inv-loop μ-loop
 add-i c = omega arith
@@ -34,10 +35,10 @@ loop-less : tie.Need-loop-less Inv-loop μ-loop
 loop-less c = omega arith
 
 loop-again : tie.Need-loop-again Inv-loop μ-loop
-loop-again c = one-more (c .before .before .before .before .loop .inv) (c .before .before .before .loop-test .taken) (c .if2 .left)
+loop-again c = search (one-more, needs)
 
 returns-3 : tie.Need-returns-3 Inv-loop μ-loop
-returns-3 c = all-compared (c .before .loop .inv) (c .loop-test .left)
+returns-3 c = search (all-compared, needs)
 
 pub begins-spec : {M : Type 1} → statement M
 begins-spec =

@@ -15,7 +15,7 @@ abbrev μ-loop : tie.MeasureT-loop
 μ-loop lines image₀ column₀ high₀ len₀ i₀ image column high len i = length lines - i
 
 loop-holds : tie.Need-loop-holds Inv-loop μ-loop
-loop-holds c = begun _ _
+loop-holds c = search (begun, needs)
 
 shared-slice-read-c : tie.Need-shared-slice-read-c Inv-loop μ-loop
 shared-slice-read-c c = omega arith
@@ -30,13 +30,13 @@ loop-less : tie.Need-loop-less Inv-loop μ-loop
 loop-less c = omega arith
 
 loop-again : tie.Need-loop-again Inv-loop μ-loop
-loop-again c = line-ended (c .before .before .before .loop .inv) (c .before .before .loop-test .taken) (c .if1 .taken)
+loop-again c = search (line-ended, needs)
 
 same-length : tie.Need-same-length Inv-loop μ-loop
-same-length c = room-kept (c .before .before .before .before .before .before .loop .inv)
+same-length c = search (room-kept, needs)
 
 returns : tie.Need-returns Inv-loop μ-loop
-returns c = too-long (c .before .before .before .before .before .before .loop .inv) (c .before .before .before .before .before .loop-test .taken) (c .before .before .before .if1 .left) _ (c .before .before .ends-byte .ensures) (c .before .if2 .taken) (c .if3 .taken)
+returns c = search (too-long, needs)
 
 mul-image : tie.Need-mul-image Inv-loop μ-loop
 mul-image c = omega (arith, c .before .before .before .before .before .before .loop .inv .digit)
@@ -54,19 +54,19 @@ loop-less-2 : tie.Need-loop-less-2 Inv-loop μ-loop
 loop-less-2 c = omega arith
 
 loop-again-2 : tie.Need-loop-again-2 Inv-loop μ-loop
-loop-again-2 c = put (c .before .before .before .before .before .before .before .loop .inv) (c .before .before .before .before .before .before .loop-test .taken) (c .before .before .before .before .if1 .left) _ (c .before .before .before .ends-byte .ensures) (c .before .before .if2 .taken) _ (c .digit .ensures) (c .before .if3 .left)
+loop-again-2 c = search (put, needs)
 
 loop-less-3 : tie.Need-loop-less-3 Inv-loop μ-loop
 loop-less-3 c = omega arith
 
 loop-again-3 : tie.Need-loop-again-3 Inv-loop μ-loop
-loop-again-3 c = passed (c .before .before .before .before .before .before .loop .inv) (c .before .before .before .before .before .loop-test .taken) (c .before .before .before .if1 .left) _ (c .before .before .ends-byte .ensures) _ (c .high-after .ensures) (c .before .if2 .left)
+loop-again-3 c = search (passed, needs)
 
 same-length-2 : tie.Need-same-length-2 Inv-loop μ-loop
-same-length-2 c = room-kept (c .before .loop .inv)
+same-length-2 c = search (room-kept, needs)
 
 returns-2 : tie.Need-returns-2 Inv-loop μ-loop
-returns-2 c = all-read (c .before .loop .inv) (c .loop-test .left)
+returns-2 c = search (all-read, needs)
 
 pub restore-spec : {M : Type 1} → statement M
 restore-spec =
