@@ -11,5 +11,6 @@ mod operand;
 pub mod play;
 pub mod portlog;
 pub mod refusal;
+pub mod rom_listing;
 pub mod state;
 mod width;

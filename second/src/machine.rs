@@ -38,6 +38,9 @@ pub(crate) struct Now {
     bus_cycles: u32,
     recorded: bool,
     trapped: bool,
+    /// How many bytes the instruction has, for tests alone.
+    #[cfg(test)]
+    pub fetched: usize,
 }
 
 impl Now {
@@ -50,6 +53,8 @@ impl Now {
             bus_cycles: 0,
             recorded: false,
             trapped: false,
+            #[cfg(test)]
+            fetched: 0,
         }
     }
 }
@@ -177,6 +182,10 @@ impl<'a> Machine<'a> {
             .memory
             .read_byte(self.state.segment[PS], self.now.next_pc);
         self.now.next_pc = self.now.next_pc.wrapping_add(1);
+        #[cfg(test)]
+        {
+            self.now.fetched += 1;
+        }
         byte
     }
 

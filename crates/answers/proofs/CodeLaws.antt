@@ -1,5 +1,5 @@
 -- The answer for one code of a table: by the row that starts at a code, or by none.
-use Prim.Native.Nat.{ℕ, zero, suc, _+_, _-_, _≤_, _<_}
+use Prim.Native.Nat.{ℕ, zero, suc, _+_, _-_, _%_, _≤_, _<_}
 use mathlib.Core.Path.{_≡_, refl, sym, _∙_}
 use mathlib.Core.Logic.{inl, inr}
 use mathlib.Core.Bool.{Bool, true, false, not, _&&_, _||_, and-eq-true-iff}
@@ -58,6 +58,14 @@ row-at (r ∷ t) n b e h k = go (eqb (r .from) n) refl e k (λ y l. row-at t n b
         let (x, y) = and-eq-true-iff (leb (r .from + r .many) n) (starts n t) .0 e in
         let z = leb-true (r .from + r .many) n x in
         passed r t b (above-row r b (omega arith)) ∙ others y k
+
+-- ---- the low bits of a code, where n is the first code of its row
+
+pub low-bit : (n b : ℕ) → n ≤ b → n % 2 ≡ 0 → b % 2 ≡ (b - n) % 2
+low-bit n b h e = omega arith
+
+pub low-bits : (n b : ℕ) → n ≤ b → b < n + 8 → n % 8 ≡ 0 → b % 8 ≡ b - n
+low-bits n b h k e = omega arith
 
 -- ---- codes that no row has
 

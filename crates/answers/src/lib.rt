@@ -1,14 +1,10 @@
-// What bytes name, by the groups of section 8: one constructor for each, since an instruction is a large value to the prover.
-use sheet::Amount;
+// What bytes name, by the groups of section 8: one constructor for each that several crates name, since an instruction is a large value to the prover.
 use sheet::Arithmetic;
-use sheet::Bit;
 use sheet::Branch;
 use sheet::Compute;
 use sheet::Conditional;
 use sheet::Control;
 use sheet::Convert;
-use sheet::Decimal;
-use sheet::Field;
 use sheet::Instr;
 use sheet::Interrupt;
 use sheet::Io;
@@ -23,7 +19,7 @@ use sheet::Stack;
 use sheet::Transfer;
 ghost use mathlib.Core.Path.{_≡_};
 ghost use Rattle.sheet.specs.declared.Instr.the-variants.{Computes, Moves, Multiplies, Interrupts, Ports, Controls, Blocks};
-ghost use Rattle.sheet.specs.Groups.{Transfers, Calculates, Converts, Decimals, Fields, Stacks, Branches, Tests, Shifts, Bits};
+ghost use Rattle.sheet.specs.Groups.{Transfers, Calculates, Converts, Stacks, Branches, Tests, Shifts};
 ghost use Rattle.answers.specs.declared.Decoded.the-variants.{Known as KnownIs};
 
 // An instruction and how many bytes it has, or the refusal's number.
@@ -32,7 +28,8 @@ pub enum Decoded {
     Unknown { number: u8 },
 }
 
-fn computes(group: Compute, size: u16) -> Decoded
+// The groups of second bytes are made with it too: no other crate names them.
+pub fn computes(group: Compute, size: u16) -> Decoded
     ensures { λ r. ⌜ r ≡ KnownIs (Computes group) size ⌝ }
 {
     Decoded::Known {
@@ -75,18 +72,6 @@ pub fn converts(group: Convert, size: u16) -> Decoded
     ensures { λ r. ⌜ r ≡ KnownIs (Converts group) size ⌝ }
 {
     computes(Compute::Converts(group), size)
-}
-
-pub fn decimals(group: Decimal, size: u16) -> Decoded
-    ensures { λ r. ⌜ r ≡ KnownIs (Decimals group) size ⌝ }
-{
-    computes(Compute::Decimals(group), size)
-}
-
-pub fn fields(group: Field, size: u16) -> Decoded
-    ensures { λ r. ⌜ r ≡ KnownIs (Fields group) size ⌝ }
-{
-    computes(Compute::Fields(group), size)
 }
 
 pub fn stacks(group: Stack, size: u16) -> Decoded
@@ -143,20 +128,6 @@ pub fn shifts(kind: Shift, word: bool, to: Place, places: Places, size: u16) -> 
             word: word,
             to: to,
             places: places,
-        },
-        size,
-    )
-}
-
-pub fn bits(op: Bit, word: bool, to: Place, number: Amount, size: u16) -> Decoded
-    ensures { λ r. ⌜ r ≡ KnownIs (Bits op word to number) size ⌝ }
-{
-    computes(
-        Compute::Bits {
-            op: op,
-            word: word,
-            to: to,
-            number: number,
         },
         size,
     )

@@ -7,7 +7,7 @@ use lib.Dec.{eqb, ltb}
 use borrow.Author.Tests.{eq-eqb, ne-eqb, lt-ltb, le-ltb}
 use Rattle.sheet.specs.declared.Place.{Place}
 use Rattle.sheet.specs.declared.Place.the-variants.{Register}
-use Rattle.sheet.specs.declared.Source.the-variants.{Held}
+use Rattle.sheet.specs.declared.Source.the-variants.{Immediate, Held}
 use Rattle.sheet.specs.declared.Operation.{Operation}
 use Rattle.sheet.specs.declared.Arithmetic.the-variants.{Two}
 use Rattle.sheet.specs.declared.Stack.the-variants.{PushSegment, PopSegment}
@@ -16,15 +16,15 @@ use Rattle.sheet.specs.declared.Instr.{Instr}
 use Rattle.sheet.specs.Groups.{Calculates, Stacks}
 use Rattle.sheet.specs.Width.{pick}
 use Rattle.sheet.specs.Registers.{AW}
-use Rattle.sheet.specs.Reading.{Reading, got, no}
+use Rattle.sheet.specs.Reading.{Reading, got, no, immediate}
 use Rattle.sheet.specs.Encoding.{W, lookUp}
 use Rattle.sheet.specs.FirstByte.{operationAt, twoPlaces, withPlace, withAcc, bytes00}
 use Rattle.laws.proofs.Table.{agree}
 use Rattle.answers.specs.declared.Decoded.{Decoded}
 use Rattle.answers.specs.declared.Decoded.the-variants.{Known, Unknown}
-use Rattle.answers.specs.Answer.{Decodes, Names}
+use Rattle.answers.specs.Answer.{Takes, Decodes, Names}
 use Rattle.answers.proofs.DecodesLaws.{decodes-as, decodes-no}
-use Rattle.answers.proofs.FollowLaws.{decodes-known}
+use Rattle.answers.proofs.FollowLaws.{decodes-known, with-acc}
 use Rattle.places.specs.Operands.{Operands}
 use Rattle.places.proofs.OperandsLaws.{with-place}
 
@@ -49,9 +49,12 @@ module _ (p : Prefixes) {b : ℕ} {src : ℕ → ℕ} {i : ℕ} (h : b < 0x40) w
   pub at-places : {op : Operation} {r : Decoded} → b % 8 < 4 → op ≡ operationAt (b / 8) → Decodes (withPlace p (λ reg a. got (twoPlaces op (b % 8) reg a))) src i r → Names (bytes00 p) b src i r
   at-places k e x = record { is = decodes-as (by-column p b h ∙ rw (lt-ltb (b % 8) 4 k)) (rw e at x) }
 
-  pub at-acc : {op : Operation} {r : Decoded} → 4 ≤ b % 8 → b % 8 < 6 → op ≡ operationAt (b / 8)
-      → Decodes (withAcc (λ v. Calculates (Two op (W (b % 8 - 4)) (Register AW) v)) (W (b % 8 - 4))) src i r → Names (bytes00 p) b src i r
-  at-acc l k e x = record { is = decodes-as (by-column p b h ∙ rw (le-ltb (b % 8) 4 l, lt-ltb (b % 8) 6 k)) (rw e at x) }
+  -- the accumulator and an immediate
+  pub at-acc : {op : Operation} {j v : ℕ} {r : Decoded} → 4 ≤ b % 8 → b % 8 < 6 → op ≡ operationAt (b / 8) → Takes ℕ (immediate (W b)) src i v j 2
+      → r ≡ Known (Calculates (Two op (W b) (Register AW) (Immediate v))) j → Names (bytes00 p) b src i r
+  at-acc {op} l k e x q =
+      let y : b % 2 ≡ (b % 8 - 4) % 2 = omega arith in
+      record { is = decodes-as (by-column p b h ∙ rw (le-ltb (b % 8) 4 l, lt-ltb (b % 8) 6 k)) (rw (e, y) at (with-acc (W b) (λ s. Calculates (Two op (W b) (Register AW) s)) x q)) }
 
   pub at-segment : {r : Decoded} → b % 8 ≡ 6 → b < 0x20 → r ≡ Known (Stacks (PushSegment (b / 8))) i → Names (bytes00 p) b src i r
   at-segment k l e = record { is = decodes-as (column6 p b h k ∙ rw (lt-ltb b 0x20 l)) (decodes-known e) }

@@ -9,14 +9,9 @@ use sheet::Source;
 use sheet::Stack;
 ghost use mathlib.Core.Path.{_≡_};
 ghost use Prim.Native.Nat.{_%_, _≤_, _<_};
-ghost use Rattle.sheet.specs.Groups.{Calculates};
-ghost use Rattle.sheet.specs.declared.Arithmetic.the-variants.{Two};
-ghost use Rattle.sheet.specs.declared.Place.the-variants.{Register as RegisterIs};
-ghost use Rattle.sheet.specs.Registers.{AW};
 ghost use Rattle.sheet.specs.Reading.{got};
-ghost use Rattle.sheet.specs.Encoding.{W};
 ghost use Rattle.sheet.specs.Step.{codeByte};
-ghost use Rattle.sheet.specs.FirstByte.{withPlace, withAcc, twoPlaces, bytes00};
+ghost use Rattle.sheet.specs.FirstByte.{withPlace, twoPlaces, bytes00};
 ghost use Rattle.answers.specs.Answer.{Decodes, Names};
 
 // The number of AW and AL.
@@ -38,44 +33,24 @@ fn two_places(
 {
     let o = places::operands(ram, rom, ps, pc, p, i);
     let place = o.place;
-    if n / 2 % 2 == 1 {
-        return answers::calculates(
-            Arithmetic::Two {
-                op: op,
-                word: n % 2 == 1,
-                to: Place::Register(o.reg),
-                from: Source::Held(place),
-            },
-            o.next,
-        );
-    }
-    answers::calculates(
-        Arithmetic::Two {
-            op: op,
-            word: n % 2 == 1,
-            to: place,
-            from: Source::Held(Place::Register(o.reg)),
-        },
-        o.next,
-    )
-}
-
-// The accumulator and an immediate.
-fn with_acc(ram: &[u8], rom: &[u8], ps: u16, pc: u16, op: Operation, n: u8, i: u16) -> Decoded
-    requires { ⌜ i ≤ 4 ⌝ }
-    ensures { λ r. ⌜ Decodes (withAcc (λ v. Calculates (Two op (W n) (RegisterIs AW) v)) (W n)) (codeByte (now (ram .entry)) (now (rom .entry)) ps pc) i r ⌝ }
-{
+    let reg = Place::Register(o.reg);
     let word = n % 2 == 1;
-    let v = fetch::code_immediate(ram, rom, ps, pc, word, i);
-    answers::calculates(
+    let group = if n / 2 % 2 == 1 {
         Arithmetic::Two {
             op: op,
             word: word,
-            to: Place::Register(ACC),
-            from: Source::Immediate(v.value),
-        },
-        v.next,
-    )
+            to: reg,
+            from: Source::Held(place),
+        }
+    } else {
+        Arithmetic::Two {
+            op: op,
+            word: word,
+            to: place,
+            from: Source::Held(reg),
+        }
+    };
+    answers::calculates(group, o.next)
 }
 
 // 07, 0F, 17, .. 3F.
@@ -103,15 +78,25 @@ pub fn codes00(ram: &[u8], rom: &[u8], ps: u16, pc: u16, p: Prefixes, b: u8, i: 
     requires { ⌜ (b < 0x40) × (i ≤ 4) ⌝ }
     ensures { λ r. ⌜ Names (bytes00 p) b (codeByte (now (ram .entry)) (now (rom .entry)) ps pc) i r ⌝ }
 {
-    if b % 8 < 4 {
+    let n = b % 8;
+    if n < 6 {
         let op = places::operation_at(b / 8);
-        return two_places(ram, rom, ps, pc, p, op, b % 8, i);
+        if n < 4 {
+            return two_places(ram, rom, ps, pc, p, op, n, i);
+        }
+        let word = b % 2 == 1;
+        let v = fetch::code_immediate(ram, rom, ps, pc, word, i);
+        return answers::calculates(
+            Arithmetic::Two {
+                op: op,
+                word: word,
+                to: Place::Register(ACC),
+                from: Source::Immediate(v.value),
+            },
+            v.next,
+        );
     }
-    if b % 8 < 6 {
-        let op = places::operation_at(b / 8);
-        return with_acc(ram, rom, ps, pc, op, b % 8 - 4, i);
-    }
-    if b % 8 == 7 {
+    if n == 7 {
         return column7(ram, rom, ps, pc, p, b, i);
     }
     if b < 0x20 {

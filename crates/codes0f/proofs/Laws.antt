@@ -1,8 +1,9 @@
 -- What each return of the code comes to, over plain values.
-use Prim.Native.Nat.{ℕ, _/_, _%_, _≤_, _<_}
+use Prim.Native.Nat.{ℕ, _+_, _/_, _%_, _≤_, _<_}
 use mathlib.Core.Path.{_≡_, refl, _∙_}
 use mathlib.Core.Bool.{Bool, true, false, _&&_}
 use mathlib.Core.List.{[], _∷_}
+use native.Mathlib.Nat.{add-assoc}
 use native.Mathlib.Omega.{arith}
 use lib.Dec.{eqb, ltb}
 use lib.ListN.{getD}
@@ -64,15 +65,15 @@ module _ {p : Prefixes} {src : ℕ → ℕ} {i reg j b : ℕ} {a : Place} (o : O
 -- ---- bit fields
 
 module _ {src : ℕ → ℕ} {i j m : ℕ} (k : ℕ → Length → Instr) (x : Reads ℕ byte src i m j) where
-  pub field-register : {r : Decoded} → m / 64 ≡ 3 → r ≡ Known (k (m % 8) (length.InRegister (m / 8 % 8))) j → Decodes (fieldInRegister (λ o l. got (k o l))) src i r
+  field-register : {r : Decoded} → m / 64 ≡ 3 → r ≡ Known (k (m % 8) (length.InRegister (m / 8 % 8))) j → Decodes (fieldInRegister (λ o l. got (k o l))) src i r
   unfolding fieldInRegister
   field-register h e = decodes-seq _ x (decodes-allowed _ (eq-eqb (modField m) 3 h) (decodes-known e))
 
-  pub no-register : (m / 64 ≡ 3 → ⊥) → Decodes (fieldInRegister (λ o l. got (k o l))) src i (Unknown 3)
+  no-register : (m / 64 ≡ 3 → ⊥) → Decodes (fieldInRegister (λ o l. got (k o l))) src i (Unknown 3)
   unfolding fieldInRegister
   no-register h = decodes-seq _ x (decodes-barred _ (ne-eqb (modField m) 3 h))
 
-  pub field-given : {n l : ℕ} {r : Decoded} → m / 8 ≡ 24 → Reads ℕ byte src j n l → r ≡ Known (k (m % 8) (length.Given n)) l → Decodes (fieldGiven (λ o l. got (k o l))) src i r
+  field-given : {n l : ℕ} {r : Decoded} → m / 8 ≡ 24 → Reads ℕ byte src j n l → r ≡ Known (k (m % 8) (length.Given n)) l → Decodes (fieldGiven (λ o l. got (k o l))) src i r
   unfolding fieldGiven
   field-given h y e =
       let f : modField m ≡ 3 = omega arith in
@@ -80,6 +81,21 @@ module _ {src : ℕ → ℕ} {i j m : ℕ} (k : ℕ → Length → Instr) (x : R
       let t : (eqb (modField m) 3 && eqb (regField m) 0) ≡ true = rw (eq-eqb (modField m) 3 f, eq-eqb (regField m) 0 g) in
       decodes-seq _ x (decodes-allowed _ t (decodes-seq _ y (decodes-known e)))
 
-  pub no-given : (m / 8 ≡ 24 → ⊥) → Decodes (fieldGiven (λ o l. got (k o l))) src i (Unknown 3)
+  no-given : (m / 8 ≡ 24 → ⊥) → Decodes (fieldGiven (λ o l. got (k o l))) src i (Unknown 3)
   unfolding fieldGiven
   no-given h = decodes-seq _ x (decodes-barred _ (not-both (eqb (modField m) 3) (eqb (regField m) 0) (λ f g. h (omega (arith, eqb-true (modField m) 3 f, eqb-true (regField m) 0 g)))))
+
+module _ {src : ℕ → ℕ} {i m : ℕ} (k : ℕ → Length → Instr) (x : Reads ℕ byte src i m (i + 1)) where
+  pub no-field : (given : Bool) → (m / 64 ≡ 3 → ⊥) → Decodes (pick given (fieldGiven (λ o l. got (k o l))) (fieldInRegister (λ o l. got (k o l)))) src i (Unknown 3)
+  no-field true h = no-given k x (λ e. h (omega arith))
+  no-field false h = no-register k x h
+
+  pub no-length : {given : Bool} → given ≡ true → (m / 8 ≡ 24 → ⊥) → Decodes (pick given (fieldGiven (λ o l. got (k o l))) (fieldInRegister (λ o l. got (k o l)))) src i (Unknown 3)
+  no-length g h = rw g (no-given k x h)
+
+  module _ {given : Bool} {next : ℕ} {a : Length} {r : Decoded} (s : next ≡ pick given (i + 2) (i + 1)) (e : r ≡ Known (k (m % 8) a) next) where
+    pub length-given : {n : ℕ} → given ≡ true → m / 8 ≡ 24 → Reads ℕ byte src (i + 1) n (i + 1 + 1) → a ≡ length.Given n → Decodes (pick given (fieldGiven (λ o l. got (k o l))) (fieldInRegister (λ o l. got (k o l)))) src i r
+    length-given g h y q = let z : next ≡ i + 2 = s ∙ rw g in rw g (field-given k x h (rw (add-assoc i 1 1) at y) (rw (q, z) at e))
+
+    pub length-held : given ≡ false → m / 64 ≡ 3 → a ≡ length.InRegister (m / 8 % 8) → Decodes (pick given (fieldGiven (λ o l. got (k o l))) (fieldInRegister (λ o l. got (k o l)))) src i r
+    length-held g h q = let z : next ≡ i + 1 = s ∙ rw g in rw g (field-register k x h (rw (q, z) at e))

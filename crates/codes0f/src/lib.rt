@@ -2,11 +2,11 @@
 use answers::Decoded;
 use sheet::Amount;
 use sheet::Bit;
+use sheet::Compute;
 use sheet::Decimal;
 use sheet::Field;
 use sheet::Length;
 use sheet::Prefixes;
-ghost use mathlib.Core.Path.{_≡_};
 ghost use Prim.Native.Nat.{_≤_, _<_};
 ghost use Rattle.sheet.specs.Groups.{Decimals};
 ghost use Rattle.sheet.specs.declared.Decimal.the-variants.{Rol4, Ror4};
@@ -14,7 +14,6 @@ ghost use Rattle.sheet.specs.Width.{pick};
 ghost use Rattle.sheet.specs.Reading.{got};
 ghost use Rattle.sheet.specs.Step.{codeByte};
 ghost use Rattle.sheet.specs.SecondByte.{withPlain, fieldInRegister, fieldGiven, secondBytes};
-ghost use Rattle.answers.specs.declared.Decoded.the-variants.{Known};
 ghost use Rattle.answers.specs.Answer.{Decodes, Names};
 ghost use Rattle.codes0f.specs.Fields.{fieldOf};
 
@@ -39,10 +38,26 @@ fn bits(ram: &[u8], rom: &[u8], ps: u16, pc: u16, p: Prefixes, b: u8, i: u16) ->
         _ => Bit::Not1,
     };
     if b < 0x18 {
-        return answers::bits(op, word, place, Amount::InCl, o.next);
+        return answers::computes(
+            Compute::Bits {
+                op: op,
+                word: word,
+                to: place,
+                number: Amount::InCl,
+            },
+            o.next,
+        );
     }
     let number = fetch::code_byte(ram, rom, ps, pc, o.next);
-    answers::bits(op, word, place, Amount::Given(number), o.next + 1)
+    answers::computes(
+        Compute::Bits {
+            op: op,
+            word: word,
+            to: place,
+            number: Amount::Given(number),
+        },
+        o.next + 1,
+    )
 }
 
 // ROL4 and ROR4.
@@ -60,13 +75,37 @@ fn rotated(ram: &[u8], rom: &[u8], ps: u16, pc: u16, p: Prefixes, left: bool, i:
     } else {
         Decimal::Ror4 { to: place }
     };
-    answers::decimals(group, o.next)
+    answers::computes(Compute::Decimals(group), o.next)
 }
 
-// EXT and INS.
-fn field(ext: bool, seg: u8, offset: u8, length: Length, size: u16) -> Decoded
-    ensures { λ r. ⌜ r ≡ Known (fieldOf ext seg offset length) size ⌝ }
+// EXT and INS: a byte 11 reg' reg, or 11 000 reg and the length.
+fn field(
+    ram: &[u8],
+    rom: &[u8],
+    ps: u16,
+    pc: u16,
+    ext: bool,
+    given: bool,
+    seg: u8,
+    i: u16,
+) -> Decoded
+    requires { ⌜ i ≤ 5 ⌝ }
+    ensures { λ r. ⌜ Decodes (pick given (fieldGiven (λ o l. got (fieldOf ext seg o l))) (fieldInRegister (λ o l. got (fieldOf ext seg o l)))) (codeByte (now (ram .entry)) (now (rom .entry)) ps pc) i r ⌝ }
 {
+    let m = fetch::code_byte(ram, rom, ps, pc, i);
+    if m / 64 != 3 {
+        return Decoded::Unknown { number: 3 };
+    }
+    let length = if given {
+        if m / 8 != 24 {
+            return Decoded::Unknown { number: 3 };
+        }
+        Length::Given(fetch::code_byte(ram, rom, ps, pc, i + 1))
+    } else {
+        Length::InRegister(m / 8 % 8)
+    };
+    let next = if given { i + 2 } else { i + 1 };
+    let offset = m % 8;
     let group = if ext {
         Field::Ext {
             seg: seg,
@@ -79,32 +118,7 @@ fn field(ext: bool, seg: u8, offset: u8, length: Length, size: u16) -> Decoded
             length: length,
         }
     };
-    answers::fields(group, size)
-}
-
-// A byte 11 reg' reg.
-fn field_register(ram: &[u8], rom: &[u8], ps: u16, pc: u16, ext: bool, seg: u8, i: u16) -> Decoded
-    requires { ⌜ i ≤ 5 ⌝ }
-    ensures { λ r. ⌜ Decodes (fieldInRegister (λ o l. got (fieldOf ext seg o l))) (codeByte (now (ram .entry)) (now (rom .entry)) ps pc) i r ⌝ }
-{
-    let m = fetch::code_byte(ram, rom, ps, pc, i);
-    if m / 64 == 3 {
-        return field(ext, seg, m % 8, Length::InRegister(m / 8 % 8), i + 1);
-    }
-    Decoded::Unknown { number: 3 }
-}
-
-// A byte 11 000 reg, and the length.
-fn field_given(ram: &[u8], rom: &[u8], ps: u16, pc: u16, ext: bool, seg: u8, i: u16) -> Decoded
-    requires { ⌜ i ≤ 5 ⌝ }
-    ensures { λ r. ⌜ Decodes (fieldGiven (λ o l. got (fieldOf ext seg o l))) (codeByte (now (ram .entry)) (now (rom .entry)) ps pc) i r ⌝ }
-{
-    let m = fetch::code_byte(ram, rom, ps, pc, i);
-    let n = fetch::code_byte(ram, rom, ps, pc, i + 1);
-    if m / 8 == 24 {
-        return field(ext, seg, m % 8, Length::Given(n), i + 1 + 1);
-    }
-    Decoded::Unknown { number: 3 }
+    answers::computes(Compute::Fields(group), next)
 }
 
 pub fn codes0f(ram: &[u8], rom: &[u8], ps: u16, pc: u16, p: Prefixes, b: u8, i: u16) -> Decoded
@@ -119,16 +133,14 @@ pub fn codes0f(ram: &[u8], rom: &[u8], ps: u16, pc: u16, p: Prefixes, b: u8, i: 
     }
     let seg = p.seg;
     let source = places::seg_or(seg, DS0);
-    match b {
-        0x20 => answers::decimals(Decimal::Add4s { seg: source }, i),
-        0x22 => answers::decimals(Decimal::Sub4s { seg: source }, i),
-        0x26 => answers::decimals(Decimal::Cmp4s { seg: source }, i),
-        0x28 => rotated(ram, rom, ps, pc, p, true, i),
-        0x2a => rotated(ram, rom, ps, pc, p, false, i),
-        0x31 => field_register(ram, rom, ps, pc, false, source, i),
-        0x33 => field_register(ram, rom, ps, pc, true, source, i),
-        0x39 => field_given(ram, rom, ps, pc, false, source, i),
-        0x3b => field_given(ram, rom, ps, pc, true, source, i),
-        _ => Decoded::Unknown { number: 3 },
-    }
+    let group = match b {
+        0x20 => Decimal::Add4s { seg: source },
+        0x22 => Decimal::Sub4s { seg: source },
+        0x26 => Decimal::Cmp4s { seg: source },
+        0x28 | 0x2a => return rotated(ram, rom, ps, pc, p, b == 0x28, i),
+        0x31 | 0x33 => return field(ram, rom, ps, pc, b == 0x33, false, source, i),
+        0x39 | 0x3b => return field(ram, rom, ps, pc, b == 0x3b, true, source, i),
+        _ => return Decoded::Unknown { number: 3 },
+    };
+    answers::computes(Compute::Decimals(group), i)
 }

@@ -1,10 +1,10 @@
 -- What each return of the code comes to, over plain values.
 use Prim.Native.Nat.{ℕ, _+_, _≤_, _<_}
-use mathlib.Core.Path.{_≡_, sym, _∙_}
-use mathlib.Core.Bool.{true, not, _&&_}
+use mathlib.Core.Path.{_≡_, refl, sym, _∙_}
+use mathlib.Core.Bool.{Bool, true, false, not, _&&_}
 use native.Mathlib.Omega.{arith}
 use lib.Dec.{eqb, ltb}
-use borrow.Author.Tests.{eq-eqb, ne-eqb, lt-ltb, le-ltb}
+use borrow.Author.Tests.{eq-eqb, ne-eqb, eqb-true, eqb-false, lt-ltb, le-ltb}
 use Rattle.sheet.specs.declared.Place.{Place}
 use Rattle.sheet.specs.declared.Prefixes.{Prefixes}
 use Rattle.sheet.specs.declared.Source.the-variants.{Immediate}
@@ -12,16 +12,18 @@ use Rattle.sheet.specs.declared.Operation.{Operation}
 use Rattle.sheet.specs.declared.Arithmetic.the-variants.{Two}
 use Rattle.sheet.specs.declared.Transfer.the-variants.{FromSegment, ToSegment}
 use Rattle.sheet.specs.Groups.{Transfers, Calculates}
+use Rattle.sheet.specs.Width.{pick}
 use Rattle.sheet.specs.Registers.{inPs}
 use Rattle.sheet.specs.Reading.{byte, word, signedByte}
 use Rattle.sheet.specs.Encoding.{W, regField}
-use Rattle.sheet.specs.FirstByte.{operationAt, smallImmediate, withImmediate, fromSegment, toSegment}
+use Rattle.sheet.specs.FirstByte.{operationAt, smallImmediate, withImmediate, fromSegment, toSegment, bytes80}
 use Rattle.sheet.specs.Contract.{Reads}
 use Rattle.sheet.proofs.ReadingLaws.{read-true, read-false}
 use Rattle.answers.specs.declared.Decoded.{Decoded}
 use Rattle.answers.specs.declared.Decoded.the-variants.{Known, Unknown}
-use Rattle.answers.specs.Answer.{Takes, Decodes}
+use Rattle.answers.specs.Answer.{Takes, Decodes, Names}
 use Rattle.answers.proofs.DecodesLaws.{decodes-seq, decodes-allowed, decodes-barred}
+use Rattle.answers.proofs.CodeLaws.{at-one}
 use Rattle.answers.proofs.FollowLaws.{decodes-known}
 use Rattle.places.specs.Operands.{Operands}
 use Rattle.places.proofs.OperandsLaws.{with-place}
@@ -44,25 +46,39 @@ module _ {p : Prefixes} {src : ℕ → ℕ} {i reg j : ℕ} {a : Place} (o : Ope
   unfolding withImmediate
   with-immediate n v k op h x e = with-place o _ (decodes-seq _ (x .reads) (decodes-known (rw h at e)))
 
-  pub from-segment : reg < 4 → r ≡ Known (Transfers (FromSegment a reg)) j → Decodes (fromSegment p) src i r
+  from-segment : reg < 4 → r ≡ Known (Transfers (FromSegment a reg)) j → Decodes (fromSegment p) src i r
   unfolding fromSegment
   from-segment h e = decodes-seq _ (o .code) (decodes-allowed _ (lt-ltb (regField (o .m)) 4 (rw (o .field) at h)) (decodes-seq _ (o .named) (decodes-known (rw (o .field) at e))))
 
-  pub to-segment : reg < 4 → (reg ≡ inPs → ⊥) → r ≡ Known (Transfers (ToSegment reg a)) j → Decodes (toSegment p) src i r
+  to-segment : reg < 4 → (reg ≡ inPs → ⊥) → r ≡ Known (Transfers (ToSegment reg a)) j → Decodes (toSegment p) src i r
   unfolding toSegment
   to-segment h f e =
       let t : (ltb (regField (o .m)) 4 && not (eqb (regField (o .m)) inPs)) ≡ true = rw (lt-ltb (regField (o .m)) 4 (rw (o .field) at h), ne-eqb (regField (o .m)) inPs (λ q. f (o .field ∙ q))) in
       decodes-seq _ (o .code) (decodes-allowed _ t (decodes-seq _ (o .named) (decodes-known (rw (o .field) at e))))
 
+  pub segment-loaded : {load : Bool} → load ≡ true → reg < 4 → (reg ≡ inPs → ⊥) → r ≡ Known (Transfers (ToSegment reg a)) j → Decodes (pick load (toSegment p) (fromSegment p)) src i r
+  segment-loaded l h f e = rw l (to-segment h f e)
+
+  pub segment-stored : {load : Bool} → load ≡ false → reg < 4 → r ≡ Known (Transfers (FromSegment a reg)) j → Decodes (pick load (toSegment p) (fromSegment p)) src i r
+  segment-stored l h e = rw l (from-segment h e)
+
 module _ {p : Prefixes} {src : ℕ → ℕ} {i reg j : ℕ} {a : Place} (o : Operands p src i reg a j) where
-  pub from-none : 4 ≤ reg → Decodes (fromSegment p) src i (Unknown 3)
-  unfolding fromSegment
-  from-none h = decodes-seq _ (o .code) (decodes-barred _ (le-ltb (regField (o .m)) 4 (rw (o .field) at h)))
+  pub no-segment : (load : Bool) → 4 ≤ reg → Decodes (pick load (toSegment p) (fromSegment p)) src i (Unknown 3)
+  unfolding fromSegment toSegment
+  no-segment true h = decodes-seq _ (o .code) (decodes-barred _ (rw (le-ltb (regField (o .m)) 4 (rw (o .field) at h))))
+  no-segment false h = decodes-seq _ (o .code) (decodes-barred _ (le-ltb (regField (o .m)) 4 (rw (o .field) at h)))
 
-  pub to-none : 4 ≤ reg → Decodes (toSegment p) src i (Unknown 3)
-  unfolding toSegment
-  to-none h = decodes-seq _ (o .code) (decodes-barred _ (rw (le-ltb (regField (o .m)) 4 (rw (o .field) at h))))
-
-  pub to-ps : reg < 4 → reg ≡ inPs → Decodes (toSegment p) src i (Unknown 3)
+  to-ps : reg < 4 → reg ≡ inPs → Decodes (toSegment p) src i (Unknown 3)
   unfolding toSegment
   to-ps h f = decodes-seq _ (o .code) (decodes-barred _ (rw (lt-ltb (regField (o .m)) 4 (rw (o .field) at h), eq-eqb (regField (o .m)) inPs (sym (o .field) ∙ f))))
+
+  pub ps-loaded : {load : Bool} → load ≡ true → reg < 4 → reg ≡ inPs → Decodes (pick load (toSegment p) (fromSegment p)) src i (Unknown 3)
+  ps-loaded l h f = rw l (to-ps h f)
+
+-- 8C and 8E
+pub at-segment : (p : Prefixes) {b : ℕ} {src : ℕ → ℕ} {i : ℕ} {r : Decoded} → 0x8c ≤ b → b < 0x90 → (b ≡ 0x8d → ⊥) → (b ≡ 0x8f → ⊥) → Decodes (pick (eqb b 0x8e) (toSegment p) (fromSegment p)) src i r → Names (bytes80 p) b src i r
+at-segment p {b} {src} {i} {r} h k f g x = go (eqb b 0x8e) refl x
+  where
+    go : (c : Bool) → eqb b 0x8e ≡ c → Decodes (pick c (toSegment p) (fromSegment p)) src i r → Names (bytes80 p) b src i r
+    go true q x = at-one 0x8e refl refl (eqb-true b 0x8e q) x
+    go false q x = let z = eqb-false b 0x8e q in at-one 0x8c refl refl (omega (arith, f, g, z)) x

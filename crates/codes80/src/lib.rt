@@ -11,6 +11,7 @@ ghost use Prim.Native.Nat.{ℕ, _≤_, _<_};
 ghost use Rattle.sheet.specs.Groups.{Transfers, Stacks};
 ghost use Rattle.sheet.specs.declared.Transfer.the-variants.{Ldea};
 ghost use Rattle.sheet.specs.declared.Stack.the-variants.{Pop};
+ghost use Rattle.sheet.specs.Width.{pick};
 ghost use Rattle.sheet.specs.Step.{codeByte};
 ghost use Rattle.sheet.specs.SecondByte.{withPlain};
 ghost use Rattle.sheet.specs.FirstByte.{smallImmediate, withImmediate, withMemory, fromSegment, toSegment, bytes80};
@@ -65,10 +66,11 @@ fn two_places(ram: &[u8], rom: &[u8], ps: u16, pc: u16, p: Prefixes, b: u8, i: u
 {
     let o = places::operands(ram, rom, ps, pc, p, i);
     let place = o.place;
+    let word = b % 2 == 1;
     if b < 0x86 {
         return answers::calculates(
             Arithmetic::Test {
-                word: (b - 0x84) % 2 == 1,
+                word: word,
                 left: place,
                 right: Source::Held(Place::Register(o.reg)),
             },
@@ -77,17 +79,17 @@ fn two_places(ram: &[u8], rom: &[u8], ps: u16, pc: u16, p: Prefixes, b: u8, i: u
     }
     let group = match b / 2 {
         0x43 => Transfer::Xch {
-            word: (b - 0x86) % 2 == 1,
+            word: word,
             reg: o.reg,
             with: place,
         },
         0x44 => Transfer::Mov {
-            word: (b - 0x88) % 2 == 1,
+            word: word,
             to: place,
             from: Source::Held(Place::Register(o.reg)),
         },
         _ => Transfer::Mov {
-            word: (b - 0x8a) % 2 == 1,
+            word: word,
             to: Place::Register(o.reg),
             from: Source::Held(place),
         },
@@ -95,44 +97,39 @@ fn two_places(ram: &[u8], rom: &[u8], ps: u16, pc: u16, p: Prefixes, b: u8, i: u
     answers::transfers(group, o.next)
 }
 
-fn from_segment(ram: &[u8], rom: &[u8], ps: u16, pc: u16, p: Prefixes, i: u16) -> Decoded
+// 8C and 8E: PS is not loaded.
+fn with_segment(
+    ram: &[u8],
+    rom: &[u8],
+    ps: u16,
+    pc: u16,
+    p: Prefixes,
+    load: bool,
+    i: u16,
+) -> Decoded
     requires { ⌜ i ≤ 4 ⌝ }
-    ensures { λ r. ⌜ Decodes (fromSegment p) (codeByte (now (ram .entry)) (now (rom .entry)) ps pc) i r ⌝ }
+    ensures { λ r. ⌜ Decodes (pick load (toSegment p) (fromSegment p)) (codeByte (now (ram .entry)) (now (rom .entry)) ps pc) i r ⌝ }
 {
     let o = places::operands(ram, rom, ps, pc, p, i);
     let place = o.place;
     if 4 <= o.reg {
         return Decoded::Unknown { number: 3 };
     }
-    answers::transfers(
-        Transfer::FromSegment {
-            to: place,
-            seg: o.reg,
-        },
-        o.next,
-    )
-}
-
-// PS is not loaded.
-fn to_segment(ram: &[u8], rom: &[u8], ps: u16, pc: u16, p: Prefixes, i: u16) -> Decoded
-    requires { ⌜ i ≤ 4 ⌝ }
-    ensures { λ r. ⌜ Decodes (toSegment p) (codeByte (now (ram .entry)) (now (rom .entry)) ps pc) i r ⌝ }
-{
-    let o = places::operands(ram, rom, ps, pc, p, i);
-    let place = o.place;
-    if 4 <= o.reg {
-        return Decoded::Unknown { number: 3 };
-    }
-    if o.reg == 1 {
-        return Decoded::Unknown { number: 3 };
-    }
-    answers::transfers(
+    let group = if load {
+        if o.reg == 1 {
+            return Decoded::Unknown { number: 3 };
+        }
         Transfer::ToSegment {
             seg: o.reg,
             from: place,
-        },
-        o.next,
-    )
+        }
+    } else {
+        Transfer::FromSegment {
+            to: place,
+            seg: o.reg,
+        }
+    };
+    answers::transfers(group, o.next)
 }
 
 fn ldea(ram: &[u8], rom: &[u8], ps: u16, pc: u16, p: Prefixes, i: u16) -> Decoded
@@ -176,14 +173,11 @@ pub fn codes80(ram: &[u8], rom: &[u8], ps: u16, pc: u16, p: Prefixes, b: u8, i: 
     if b < 0x8c {
         return two_places(ram, rom, ps, pc, p, b, i);
     }
-    if b == 0x8c {
-        return from_segment(ram, rom, ps, pc, p, i);
-    }
     if b == 0x8d {
         return ldea(ram, rom, ps, pc, p, i);
     }
-    if b == 0x8e {
-        return to_segment(ram, rom, ps, pc, p, i);
+    if b == 0x8f {
+        return pop(ram, rom, ps, pc, p, i);
     }
-    pop(ram, rom, ps, pc, p, i)
+    with_segment(ram, rom, ps, pc, p, b == 0x8e, i)
 }

@@ -8,7 +8,7 @@ use sheet::Transfer;
 ghost use Prim.Native.Nat.{_≤_, _<_};
 ghost use Rattle.sheet.specs.Reading.{got};
 ghost use Rattle.sheet.specs.Step.{codeByte};
-ghost use Rattle.sheet.specs.FirstByte.{shiftGroup, afterTen, bytesC0};
+ghost use Rattle.sheet.specs.FirstByte.{shiftGroup, bytesC0};
 ghost use Rattle.answers.specs.Answer.{Decodes, Names};
 
 // The number of DS0.
@@ -37,44 +37,30 @@ fn shift_fixed(
     answers::shifts(kind, n % 2 == 1, place, places, o.next)
 }
 
-// D4 and D5 are followed by 0Ah.
-fn after_ten(ram: &[u8], rom: &[u8], ps: u16, pc: u16, group: Convert, i: u16) -> Decoded
-    requires { ⌜ i ≤ 4 ⌝ }
-    ensures { λ r. ⌜ Decodes (afterTen group) (codeByte (now (ram .entry)) (now (rom .entry)) ps pc) i r ⌝ }
-{
-    let b = fetch::code_byte(ram, rom, ps, pc, i);
-    if b == 0x0a {
-        return answers::converts(group, i + 1);
-    }
-    Decoded::Unknown { number: 3 }
-}
-
 pub fn codesd0(ram: &[u8], rom: &[u8], ps: u16, pc: u16, p: Prefixes, b: u8, i: u16) -> Decoded
     requires { ⌜ (0xd0 ≤ b) × ((b < 0xe0) × (i ≤ 4)) ⌝ }
     ensures { λ r. ⌜ Names (bytesC0 p) b (codeByte (now (ram .entry)) (now (rom .entry)) ps pc) i r ⌝ }
 {
-    if b < 0xd2 {
-        return shift_fixed(ram, rom, ps, pc, p, Places::One, b - 0xd0, i);
-    }
     if b < 0xd4 {
-        return shift_fixed(
-            ram,
-            rom,
-            ps,
-            pc,
-            p,
-            Places::Counted(Amount::InCl),
-            b - 0xd2,
-            i,
-        );
+        let places = if b < 0xd2 {
+            Places::One
+        } else {
+            Places::Counted(Amount::InCl)
+        };
+        return shift_fixed(ram, rom, ps, pc, p, places, b, i);
     }
     if b < 0xd6 {
+        // D4 and D5 are followed by 0Ah
+        let ten = fetch::code_byte(ram, rom, ps, pc, i);
+        if ten != 0x0a {
+            return Decoded::Unknown { number: 3 };
+        }
         let group = if b == 0xd4 {
             Convert::Cvtbd
         } else {
             Convert::Cvtdb
         };
-        return after_ten(ram, rom, ps, pc, group, i);
+        return answers::converts(group, i + 1);
     }
     if b == 0xd7 {
         let seg = p.seg;

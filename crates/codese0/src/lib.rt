@@ -6,11 +6,9 @@ use sheet::Io;
 use sheet::Port;
 use sheet::Prefixes;
 ghost use Prim.Native.Nat.{_≤_, _<_};
-ghost use Rattle.sheet.specs.Groups.{Branches};
-ghost use Rattle.sheet.specs.declared.Branch.the-variants.{BrFar};
 ghost use Rattle.sheet.specs.Step.{codeByte};
-ghost use Rattle.sheet.specs.FirstByte.{withFar, bytesC0};
-ghost use Rattle.answers.specs.Answer.{Decodes, Names};
+ghost use Rattle.sheet.specs.FirstByte.{bytesC0};
+ghost use Rattle.answers.specs.Answer.{Names};
 
 // E0 to E3: branches by CW.
 fn loops(ram: &[u8], rom: &[u8], ps: u16, pc: u16, p: Prefixes, b: u8, i: u16) -> Decoded
@@ -33,34 +31,20 @@ fn numbered_ports(ram: &[u8], rom: &[u8], ps: u16, pc: u16, p: Prefixes, b: u8, 
     ensures { λ r. ⌜ Names (bytesC0 p) b (codeByte (now (ram .entry)) (now (rom .entry)) ps pc) i r ⌝ }
 {
     let number = fetch::code_byte(ram, rom, ps, pc, i);
+    let word = b % 2 == 1;
+    let port = Port::Numbered(number);
     let group = if b < 0xe6 {
         Io::In {
-            word: (b - 0xe4) % 2 == 1,
-            port: Port::Numbered(number),
+            word: word,
+            port: port,
         }
     } else {
         Io::Out {
-            word: (b - 0xe6) % 2 == 1,
-            port: Port::Numbered(number),
+            word: word,
+            port: port,
         }
     };
     answers::ports(group, i + 1)
-}
-
-fn branch_far(ram: &[u8], rom: &[u8], ps: u16, pc: u16, i: u16) -> Decoded
-    requires { ⌜ i ≤ 4 ⌝ }
-    ensures { λ r. ⌜ Decodes (withFar (λ s o. Branches (BrFar s o))) (codeByte (now (ram .entry)) (now (rom .entry)) ps pc) i r ⌝ }
-{
-    let offset = fetch::code_word(ram, rom, ps, pc, i);
-    let next = i + 2;
-    let segment = fetch::code_word(ram, rom, ps, pc, next);
-    answers::branches(
-        Branch::BrFar {
-            ps: segment,
-            pc: offset,
-        },
-        next + 2,
-    )
 }
 
 fn codese8(ram: &[u8], rom: &[u8], ps: u16, pc: u16, p: Prefixes, b: u8, i: u16) -> Decoded
@@ -68,7 +52,14 @@ fn codese8(ram: &[u8], rom: &[u8], ps: u16, pc: u16, p: Prefixes, b: u8, i: u16)
     ensures { λ r. ⌜ Names (bytesC0 p) b (codeByte (now (ram .entry)) (now (rom .entry)) ps pc) i r ⌝ }
 {
     if b == 0xea {
-        return branch_far(ram, rom, ps, pc, i);
+        let to = fetch::code_far(ram, rom, ps, pc, i);
+        return answers::branches(
+            Branch::BrFar {
+                ps: to.segment,
+                pc: to.offset,
+            },
+            i + 4,
+        );
     }
     if b == 0xeb {
         let disp = fetch::code_short(ram, rom, ps, pc, i);
@@ -96,14 +87,15 @@ pub fn codese0(ram: &[u8], rom: &[u8], ps: u16, pc: u16, p: Prefixes, b: u8, i: 
     if b < 0xec {
         return codese8(ram, rom, ps, pc, p, b, i);
     }
+    let word = b % 2 == 1;
     let group = if b < 0xee {
         Io::In {
-            word: (b - 0xec) % 2 == 1,
+            word: word,
             port: Port::InDw,
         }
     } else {
         Io::Out {
-            word: (b - 0xee) % 2 == 1,
+            word: word,
             port: Port::InDw,
         }
     };

@@ -1,6 +1,7 @@
 -- What the groups by the reg field come to, over plain values.
 use Prim.Native.Nat.{ℕ, suc, _+_, _/_, _≤_, _<_}
 use mathlib.Core.Path.{_≡_, refl, _∙_}
+use mathlib.Core.Logic.{_⊎_, inl, inr}
 use mathlib.Core.Bool.{Bool, true, false}
 use mathlib.Core.List.{[], _∷_}
 use native.Mathlib.Omega.{arith}
@@ -94,10 +95,7 @@ module _ {p : Prefixes} {src : ℕ → ℕ} {i reg j : ℕ} {a : Place} (o : Ope
   pub for-words : (w : Bool) {r : Decoded} → w ≡ true → Decodes (groupFF p) src i r → Decodes (pick w (groupFF p) (groupFE p)) src i r
   for-words w e x = rw e x
 
-  pub far : {r : Decoded} → ((reg ≡ 3 → ⊥) → reg ≡ 5) → r ≡ memoryOnly (λ x. Branches (pick (eqb reg 3) (CallFarAt x) (BrFarAt x))) a j → Decodes (groupFF p) src i r
+  pub far : {r : Decoded} → (reg ≡ 3) ⊎ (reg ≡ 5) → r ≡ memoryOnly (λ x. Branches (pick (eqb reg 3) (CallFarAt x) (BrFarAt x))) a j → Decodes (groupFF p) src i r
   unfolding groupFF
-  far {r} h e = go (eqb reg 3) refl e
-    where
-      go : (c : Bool) → eqb reg 3 ≡ c → r ≡ memoryOnly (λ x. Branches (pick c (CallFarAt x) (BrFarAt x))) a j → Decodes (groupFF p) src i r
-      go true q e = by-field o _ (at-one 3 refl refl (eqb-true reg 3 q) (of-pointer a o _ e))
-      go false q e = by-field o _ (at-one 5 refl refl (h (eqb-false reg 3 q)) (of-pointer a o _ e))
+  far (inl h) e = by-field o _ (at-one 3 refl refl h (of-pointer a o _ (rw h at e)))
+  far (inr h) e = by-field o _ (at-one 5 refl refl h (of-pointer a o _ (rw h at e)))

@@ -111,19 +111,14 @@ fn group_fe(ram: &[u8], rom: &[u8], ps: u16, pc: u16, p: Prefixes, word: bool, i
     if !word {
         return Decoded::Unknown { number: 3 };
     }
-    if reg == 2 {
-        return answers::branches(Branch::CallTo { to: place }, o.next);
-    }
-    if reg == 4 {
-        return answers::branches(Branch::BrTo { to: place }, o.next);
-    }
-    if reg == 6 {
-        return answers::stacks(Stack::Push { from: place }, o.next);
-    }
-    if reg == 7 {
-        return Decoded::Unknown { number: 3 };
-    }
-    far_at(reg == 3, place, o.next)
+    let group = match reg {
+        2 => Branch::CallTo { to: place },
+        3 | 5 => return far_at(reg == 3, place, o.next),
+        4 => Branch::BrTo { to: place },
+        6 => return answers::stacks(Stack::Push { from: place }, o.next),
+        _ => return Decoded::Unknown { number: 3 },
+    };
+    answers::branches(group, o.next)
 }
 
 pub fn codesf0(ram: &[u8], rom: &[u8], ps: u16, pc: u16, p: Prefixes, b: u8, i: u16) -> Decoded

@@ -8,10 +8,11 @@ use files::say;
 use io::print_decimal;
 use libc::STDERR_FILENO;
 use schedule::Fault;
-use session::Session;
+use turns::Session;
 ghost use Rattle.io.specs.Counts.{Counts};
 ghost use Rattle.sheet.specs.Step.{reset};
-ghost use Rattle.session.specs.Turns.{begun, Played};
+ghost use Rattle.turns.specs.Stand.{begun};
+ghost use Rattle.session.specs.Turns.{Played};
 
 const STEPS: u64 = 10000000;
 
@@ -36,7 +37,7 @@ fn play(
 ) -> Session
     ensures { λ r. ⌜ Played (now (schedule .entry)) limit (begun reset) (now (ram .entry)) (now (rom .entry)) (now (tape .entry)) (now (log .entry)) r (now (ram .exit)) (now (log .exit)) ⌝ }
 {
-    let mut s = session::begin(calls::reset());
+    let mut s = turns::begin(calls::reset());
     let mut clock = files::start();
     let mut pieces = u64::MAX;
     while pieces > 0 {

@@ -2,7 +2,7 @@
 use io::print_decimal;
 use io::write_all;
 use libc::STDOUT_FILENO;
-use session::Session;
+use turns::Session;
 
 fn print(text: &[u8]) -> bool {
     write_all(STDOUT_FILENO, text)

@@ -11,10 +11,16 @@ pub struct NumberRead {
     pub next: u16,
 }
 
+// An address with its segment.
+pub struct FarRead {
+    pub offset: u16,
+    pub segment: u16,
+}
+
 pub fn code_byte(ram: &[u8], rom: &[u8], ps: u16, pc: u16, i: u16) -> u8
     ensures { λ r. ⌜ Reads ℕ byte (codeByte (now (ram .entry)) (now (rom .entry)) ps pc) i r (i + 1) ⌝ }
 {
-    memory::read_byte(ram, rom, ps, word::plus16(pc, i))
+    memory::read_byte(ram, rom, ps, std::num::wrapping_add_u16(pc, i))
 }
 
 // Low byte first.
@@ -31,8 +37,8 @@ pub fn code_word(ram: &[u8], rom: &[u8], ps: u16, pc: u16, i: u16) -> u16
 pub fn code_short(ram: &[u8], rom: &[u8], ps: u16, pc: u16, i: u16) -> u16
     ensures { λ r. ⌜ Reads ℕ signedByte (codeByte (now (ram .entry)) (now (rom .entry)) ps pc) i r (i + 1) ⌝ }
 {
-    let b = code_byte(ram, rom, ps, pc, i);
-    word::sign_extend(b)
+    let b = code_byte(ram, rom, ps, pc, i) as u16;
+    if b < 128 { b } else { b + 65280 }
 }
 
 // An immediate of a width.
@@ -49,5 +55,16 @@ pub fn code_immediate(ram: &[u8], rom: &[u8], ps: u16, pc: u16, word: bool, i: u
     NumberRead {
         value: code_byte(ram, rom, ps, pc, i) as u16,
         next: i + 1,
+    }
+}
+
+// Four bytes: the offset, then the segment.
+pub fn code_far(ram: &[u8], rom: &[u8], ps: u16, pc: u16, i: u16) -> FarRead
+    requires { ⌜ i ≤ 6 ⌝ }
+    ensures { λ r. ⌜ Reads ℕ wordRead (codeByte (now (ram .entry)) (now (rom .entry)) ps pc) i (r .offset) (i + 2) × Reads ℕ wordRead (codeByte (now (ram .entry)) (now (rom .entry)) ps pc) (i + 2) (r .segment) (i + 4) ⌝ }
+{
+    FarRead {
+        offset: code_word(ram, rom, ps, pc, i),
+        segment: code_word(ram, rom, ps, pc, i + 2),
     }
 }

@@ -79,13 +79,21 @@ module _ {src : ℕ → ℕ} {i : ℕ} where
         let t : (eqb (modField m) 0 && eqb (memField m) 6) ≡ false = not-both (eqb (modField m) 0) (eqb (memField m) 6) (λ k l. e (omega (arith, eqb-true (modField m) 0 k, eqb-true (memField m) 6 l))) in
         record { reads = read-false _ _ t (rw h (reads-seq _ (x .reads) reads-got)); most = x .most }
 
-    pub place-register : m / 64 ≡ 3 → Takes Place (place p m) src i (Register (m % 8)) i 2
+    place-register : m / 64 ≡ 3 → Takes Place (place p m) src i (Register (m % 8)) i 2
     unfolding place
     place-register e = record { reads = read-true _ _ (eq-eqb (modField m) 3 e) reads-got; most = omega arith }
 
-    pub place-memory : (a : Address) (j : ℕ) → (m / 64 ≡ 3 → ⊥) → Takes Address (address p (modField m) (memField m)) src i a j 2 → Takes Place (place p m) src i (Memory a) j 2
+    place-memory : (a : Address) (j : ℕ) → (m / 64 ≡ 3 → ⊥) → Takes Address (address p (modField m) (memField m)) src i a j 2 → Takes Place (place p m) src i (Memory a) j 2
     unfolding place inMemory
     place-memory a j e x = record { reads = read-false _ _ (ne-eqb (modField m) 3 e) (reads-seq _ (x .reads) reads-got); most = x .most }
 
-    pub operands-named : (a : Place) (j : ℕ) → m < 256 → Reads ℕ byte src i m (i + 1) → Takes Place (place p m) src (i + 1) a j 2 → Operands p src i (m / 8 % 8) a j
+    operands-named : (a : Place) (j : ℕ) → m < 256 → Reads ℕ byte src i m (i + 1) → Takes Place (place p m) src (i + 1) a j 2 → Operands p src i (m / 8 % 8) a j
     operands-named a j h x y = let l = y .most in record { m = m; below = h; code = x; field = refl; named = y .reads; most = omega arith }
+
+module _ {src : ℕ → ℕ} {i : ℕ} (p : Prefixes) (m : ℕ) where
+  pub operands-register : m < 256 → Reads ℕ byte src i m (i + 1) → m / 64 ≡ 3 → Operands p src i (m / 8 % 8) (Register (m % 8)) (i + 1)
+  operands-register h x e = operands-named p m _ _ h x (place-register p m e)
+
+  pub operands-memory : (a : Address) (j : ℕ) → m < 256 → Reads ℕ byte src i m (i + 1) → (m / 64 ≡ 3 → ⊥) → Takes Address (address p (modField m) (memField m)) src (i + 1) a j 2
+      → Operands p src i (m / 8 % 8) (Memory a) j
+  operands-memory a j h x e y = operands-named p m _ _ h x (place-memory p m a j e y)

@@ -17,7 +17,7 @@ ghost use Rattle.answers.specs.declared.Decoded.the-variants.{Known};
 ghost use Rattle.sheet.specs.Registers.{inDs0};
 ghost use Rattle.sheet.specs.FirstByte.{operationAt, shifts};
 ghost use Rattle.sheet.specs.Step.{codeByte};
-ghost use Rattle.sheet.specs.Encoding.{W, segOr, modField, memField, formed as formedOf, direct as directOf, displacement as displacementRead, address as addressRead, place as placeRead};
+ghost use Rattle.sheet.specs.Encoding.{W, segOr, modField, memField, formed as formedOf, direct as directOf, displacement as displacementRead, address as addressRead};
 ghost use Rattle.answers.specs.Answer.{Takes};
 ghost use Rattle.places.specs.Operands.{Operands};
 
@@ -26,11 +26,6 @@ const DS0: u8 = 3;
 
 pub struct AddressRead {
     pub address: Address,
-    pub next: u16,
-}
-
-pub struct PlaceRead {
-    pub place: Place,
     pub next: u16,
 }
 
@@ -163,36 +158,25 @@ pub fn address(ram: &[u8], rom: &[u8], ps: u16, pc: u16, p: Prefixes, m: u8, i: 
     }
 }
 
-// Mod 11 is a register.
-pub fn place(ram: &[u8], rom: &[u8], ps: u16, pc: u16, p: Prefixes, m: u8, i: u16) -> PlaceRead
-    requires { ⌜ i ≤ 6 ⌝ }
-    ensures { λ r. ⌜ Takes Place (placeRead p m) (codeByte (now (ram .entry)) (now (rom .entry)) ps pc) i (r .place) (r .next) 2 ⌝ }
-{
-    if m / 64 == 3 {
-        return PlaceRead {
-            place: Place::Register(m % 8),
-            next: i,
-        };
-    }
-    let a = address(ram, rom, ps, pc, p, m, i);
-    let address = a.address;
-    PlaceRead {
-        place: Place::Memory(address),
-        next: a.next,
-    }
-}
-
-// The mod-reg-mem byte and what it names.
+// The mod-reg-mem byte and what it names: mod 11 is a register.
 pub fn operands(ram: &[u8], rom: &[u8], ps: u16, pc: u16, p: Prefixes, i: u16) -> OperandsRead
     requires { ⌜ i ≤ 5 ⌝ }
     ensures { λ r. ⌜ Operands p (codeByte (now (ram .entry)) (now (rom .entry)) ps pc) i (r .reg) (r .place) (r .next) ⌝ }
 {
     let m = fetch::code_byte(ram, rom, ps, pc, i);
-    let a = place(ram, rom, ps, pc, p, m, i + 1);
-    let place = a.place;
+    let reg = m / 8 % 8;
+    if m / 64 == 3 {
+        return OperandsRead {
+            reg: reg,
+            place: Place::Register(m % 8),
+            next: i + 1,
+        };
+    }
+    let a = address(ram, rom, ps, pc, p, m, i + 1);
+    let address = a.address;
     OperandsRead {
-        reg: m / 8 % 8,
-        place: place,
+        reg: reg,
+        place: Place::Memory(address),
         next: a.next,
     }
 }

@@ -9,26 +9,17 @@ use lib.Seq.{take-all, take-add, take-at, drop-at, length-take-le}
 use lib.Dec.{eqb}
 use borrow.Author.Tests.{eqb-true, eqb-false, not-true, not-false}
 use Rattle.laws.proofs.Parts.{rest}
-use Rattle.line.specs.Adds.{Holds}
 use Rattle.rom_line.specs.Makes.{Makes}
+use Rattle.rom_line.proofs.Text.{made}
 use Rattle.romlist.specs.Listing.{top, lineAt, sizeAt, linesFrom, listing}
 use Rattle.romlist.proofs.RoundTrip.{size-at}
 use Rattle.rom_image.specs.Agrees.{Begins, Compares, Agrees}
-use Rattle.rom_image.proofs.Lines.{line-short, no-lines, line-and-rest, all-lines}
+use Rattle.romlist.proofs.Lines.{line-short, no-lines, line-and-rest, all-lines}
 
 -- a line that was made, compared with what follows
 module _ {image line line′ : List ℕ} {a r size : ℕ} (h : a < top) (n : length line ≡ 80) (m : Makes image a line r size line′) where
-  made : Holds line′ r (lineAt image a)
-  made = m .adds .adds [] (line-short image a h) (record { long = n; count = refl; first = refl })
-
-  pub text-within : r ≤ length line′
-  text-within = omega (arith, made .count, made .long, line-short image a h)
-
-  pub text-long : r ≡ length (take r line′)
-  text-long = sym (length-take-le r line′ text-within)
-
   pub compared : {s : List ℕ} {b : Bool} → Begins (take r line′) s b → Compares image a s b r size
-  compared b = record { here = rw (made .first) at b; long = made .count; counts = m .counts }
+  compared b = record { here = rw (made h n m .first) at b; long = made h n m .count; counts = m .counts }
 
 -- the loop's invariant: the listing is the lines up to `at`, and then the lines from address a on
 pub record Agreeing (lines image : List ℕ) (a at : ℕ) : Type 0 where

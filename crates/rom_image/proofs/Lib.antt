@@ -1,7 +1,6 @@
 pub mod Characters
 pub mod Reading
 pub mod Comparing
-pub mod Lines
 pub mod Agreeing
 pub mod Rebuilding
 pub mod RoundTrip

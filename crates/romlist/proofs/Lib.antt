@@ -3,3 +3,4 @@ pub mod RoundTrip
 pub mod Room
 pub mod NineBytes
 pub mod EngineReads
+pub mod Lines

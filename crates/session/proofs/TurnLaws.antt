@@ -1,5 +1,5 @@
 -- What each return of a session's code comes to.
-use Prim.Native.Nat.{ℕ, _+_, _-_, _%_, min}
+use Prim.Native.Nat.{ℕ, _+_}
 use mathlib.Core.Bool.{Bool, true, false}
 use mathlib.Core.List.{List}
 use mathlib.Core.Logic.{inl, inr}
@@ -11,13 +11,10 @@ use Rattle.sheet.specs.World.{world}
 use Rattle.sheet.specs.Run.{runs, runReported, ranReport}
 use Rattle.calls.specs.Calls.{Interrupts}
 use Rattle.engine.specs.Runs.{Runs}
-use Rattle.session.specs.declared.Session.{Session}
-use Rattle.session.specs.declared.Next.{Next}
-use Rattle.session.specs.Turns.{nextOf, vectorOf, maskableOf, isCalled, budgetOf, answeredBy, ranBy, Called, called, Continued, continued, Turn, byCall, byRun, Turns, none, more, Played, Plays}
-
-pub budget-is : (steps limit due : ℕ) {a b left r : ℕ} → a ≡ limit - steps → b ≡ due - steps → left ≡ min a b → r ≡ min left 65535 → r % 65536 ≡ budgetOf steps limit due
-unfolding budgetOf
-budget-is steps limit due ea eb el er = omega arith
+use Rattle.turns.specs.declared.Session.{Session}
+use Rattle.turns.specs.declared.Next.{Next}
+use Rattle.turns.specs.Stand.{nextOf, vectorOf, maskableOf, isCalled, budgetOf, answeredBy, ranBy}
+use Rattle.session.specs.Turns.{Called, called, Continued, continued, Turn, byCall, byRun, Turns, none, more, Played, Plays}
 
 pub called-is : {call number : ℕ} {s r : Session} {ram rom tape log ram′ : List ℕ} {t : State} {n : Bus} → Interrupts (vectorOf call) (maskableOf call) (s .state) ram rom tape log number t ram′ n → r ≡ answeredBy s number t n → Called call s ram rom tape log r ram′
 called-is {call} {number} {s} {r} {ram} {rom} {tape} {log} {ram′} {t} {n} h e =

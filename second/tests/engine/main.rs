@@ -12,6 +12,7 @@ mod play;
 mod ports;
 mod prefixes;
 mod refusals;
+mod rom_listing;
 mod shifts;
 mod small_table;
 mod stack;

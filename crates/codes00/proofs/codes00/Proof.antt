@@ -5,10 +5,10 @@ use Rattle.codes00.proofs.codes00.Statement.{statement}
 use Rattle.codes00.proofs.codes00.Tie as tie
 
 returns : tie.Need-returns
-returns c = at-places _ (search needs) (search needs) (c .before .operation-at .ensures) (c .two-places .ensures)
+returns c = at-places _ (search needs) (search needs) (c .before .before .operation-at .ensures) (c .two-places .ensures)
 
 returns-2 : tie.Need-returns-2
-returns-2 c = at-acc _ (search needs) (search needs) (search needs) (c .before .operation-at2 .ensures) (c .with-acc .ensures)
+returns-2 c = at-acc _ (search needs) (search needs) (search needs) (c .before .before .before .operation-at .ensures) (c .before .code-immediate .ensures) (c .calculates .ensures)
 
 returns-4 : tie.Need-returns-4
 returns-4 c = at-segment _ (search needs) (omega arith) (search needs) (c .stacks .ensures)
@@ -24,7 +24,6 @@ codes00-spec =
     (λ c κs. search needs)
     returns
     (λ c κs. search needs)
-    (λ c. search needs)
     (λ c κs. search needs)
     returns-2
     (λ c κs. search needs)

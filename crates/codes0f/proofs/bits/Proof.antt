@@ -13,10 +13,10 @@ returns : tie.Need-returns
 returns c = no-bit (c .before .before .operands .ensures) (search needs) (search needs) (search needs)
 
 returns-2 : tie.Need-returns-2
-returns-2 c = in-cl (c .before .before .before .before .before .operands .ensures) (search needs) (search needs) (search needs) (op-is (c .before .before)) (search needs) (c .bits .ensures)
+returns-2 c = in-cl (c .before .before .before .before .before .operands .ensures) (search needs) (search needs) (search needs) (op-is (c .before .before)) (search needs) (c .computes .ensures)
 
 returns-3 : tie.Need-returns-3
-returns-3 c = given (c .before .before .before .before .before .before .before .operands .ensures) (search needs) (search needs) (search needs) (op-is (c .before .before .before .before)) (search needs) (c .before .before .code-byte .ensures) (c .bits2 .ensures)
+returns-3 c = given (c .before .before .before .before .before .before .before .operands .ensures) (search needs) (search needs) (search needs) (op-is (c .before .before .before .before)) (search needs) (c .before .before .code-byte .ensures) (c .computes2 .ensures)
 
 pub bits-spec : {M : Type 1} → statement M
 bits-spec =

@@ -1,7 +1,6 @@
 use native.Mathlib.Omega.{arith}
-use Rattle.answers.proofs.CodeLaws.{at-row}
+use Rattle.answers.proofs.CodeLaws.{low-bits, at-row}
 use Rattle.answers.proofs.FollowLaws.{decodes-known, with-short}
-use Rattle.codes40.proofs.Laws.{low-bits}
 use mathlib.Core.Path.{refl}
 use mathlib.Core.Logic.{⊎-elim}
 use borrow.Author.Needs.{needs}

@@ -1,5 +1,5 @@
-use native.Mathlib.Omega.{arith}
 use Rattle.answers.proofs.CodeLaws.{at-one, at-row}
+use Rattle.codes80.proofs.Laws.{at-segment}
 use mathlib.Core.Path.{refl}
 use borrow.Author.Needs.{needs}
 use Rattle.codes80.proofs.codes80.Statement.{statement}
@@ -9,16 +9,13 @@ returns : tie.Need-returns
 returns c = at-row 0x80 refl (search needs) (search needs) (c .with-immediate .ensures)
 
 returns-3 : tie.Need-returns-3
-returns-3 c = at-one 0x8c refl refl (c .before .if3 .taken) (c .from-segment .ensures)
+returns-3 c = at-one 0x8d refl refl (c .before .if3 .taken) (c .ldea .ensures)
 
 returns-4 : tie.Need-returns-4
-returns-4 c = at-one 0x8d refl refl (c .before .if4 .taken) (c .ldea .ensures)
+returns-4 c = at-one 0x8f refl refl (c .before .if4 .taken) (c .pop .ensures)
 
 returns-5 : tie.Need-returns-5
-returns-5 c = at-one 0x8e refl refl (c .before .if5 .taken) (c .to-segment .ensures)
-
-returns-6 : tie.Need-returns-6
-returns-6 c = at-row 0x8f refl (omega arith) (omega arith) (c .pop .ensures)
+returns-5 c = at-segment _ (search needs) (search needs) (search needs) (search needs) (c .with-segment .ensures)
 
 pub codes80-spec : {M : Type 1} → statement M
 codes80-spec =
@@ -34,6 +31,4 @@ codes80-spec =
     (λ c κs. search needs)
     returns-4
     (λ c κs. search needs)
-    returns-5
-    (λ c κs. search needs)
-    returns-6)
+    returns-5)

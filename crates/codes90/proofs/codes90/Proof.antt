@@ -1,5 +1,6 @@
 use Rattle.answers.proofs.CodeLaws.{at-row}
 use Rattle.answers.proofs.FollowLaws.{decodes-known}
+use Rattle.codes90.proofs.Laws.{exchange}
 use mathlib.Core.Path.{refl}
 use borrow.Author.Needs.{needs}
 use Rattle.codes90.proofs.codes90.Statement.{statement}
@@ -9,7 +10,7 @@ returns : tie.Need-returns
 returns c = at-row 0x90 refl (search needs) (search needs) (decodes-known (c .controls .ensures))
 
 returns-2 : tie.Need-returns-2
-returns-2 c = at-row 0x91 refl (search needs) (search needs) (decodes-known (c .transfers .ensures))
+returns-2 c = exchange _ (search needs) (search needs) (c .transfers .ensures)
 
 pub codes90-spec : {M : Type 1} → statement M
 codes90-spec =

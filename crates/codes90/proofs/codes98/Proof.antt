@@ -1,7 +1,7 @@
 use mathlib.Core.List.{[]}
 use native.Mathlib.Omega.{arith}
 use Rattle.answers.proofs.CodeLaws.{at-one, at-rest}
-use Rattle.answers.proofs.FollowLaws.{decodes-known}
+use Rattle.answers.proofs.FollowLaws.{decodes-known, with-far}
 use mathlib.Core.Path.{refl}
 use mathlib.Core.Logic.{⊎-elim}
 use borrow.Author.Needs.{needs}
@@ -12,7 +12,7 @@ returns : tie.Need-returns
 returns c = ⊎-elim (λ w. at-one 0x98 refl refl (w .0 .taken) (decodes-known (rw (w .1) at (c .converts .ensures)))) (λ w. at-one 0x99 refl refl (omega arith) (decodes-known (rw (w .1) at (c .converts .ensures)))) (c .before .if2 .came)
 
 returns-2 : tie.Need-returns-2
-returns-2 c = at-one 0x9a refl refl (c .before .if3 .taken) (c .call-far .ensures)
+returns-2 c = at-one 0x9a refl refl (c .before .before .if3 .taken) (with-far _ (c .before .code-far .ensures .0) (c .before .code-far .ensures .1) (c .branches .ensures))
 
 returns-3 : tie.Need-returns-3
 returns-3 c = at-rest 0x9b 1 [] refl tt (omega arith) (omega arith)
@@ -29,6 +29,8 @@ codes98-spec =
     (tie.spec
     (λ c κs. search needs)
     returns
+    (λ c κs. search needs)
+    (λ c. search needs)
     (λ c κs. search needs)
     returns-2
     returns-3

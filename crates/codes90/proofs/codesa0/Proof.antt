@@ -1,6 +1,6 @@
 use native.Mathlib.Omega.{arith}
 use Rattle.answers.proofs.CodeLaws.{at-row}
-use Rattle.codes90.proofs.Laws.{of-block}
+use Rattle.codes90.proofs.Laws.{of-block, test-acc}
 use mathlib.Core.Path.{refl}
 use mathlib.Core.Logic.{⊎-elim}
 use borrow.Author.Needs.{needs}
@@ -8,7 +8,7 @@ use Rattle.codes90.proofs.codesa0.Statement.{statement}
 use Rattle.codes90.proofs.codesa0.Tie as tie
 
 returns-2 : tie.Need-returns-2
-returns-2 c = at-row 0xa8 refl (omega arith) (omega arith) (c .test-acc .ensures)
+returns-2 c = test-acc _ (omega arith) (omega arith) (c .before .code-immediate .ensures) (c .calculates .ensures)
 
 returns-3 : tie.Need-returns-3
 returns-3 c = ⊎-elim (λ w. at-row 0xa4 refl (omega arith) (omega arith) (of-block (c .before .before .before .before .before .before .args .b) 0xa4 (w .1) (omega arith) refl (c .block .ensures))) (⊎-elim (λ w. at-row 0xa6 refl (omega arith) (omega arith) (of-block (c .before .before .before .before .before .before .args .b) 0xa6 (w .1) (omega arith) refl (c .block .ensures))) (⊎-elim (λ w. at-row 0xaa refl (omega arith) (omega arith) (of-block (c .before .before .before .before .before .before .args .b) 0xaa (w .1) (omega arith) refl (c .block .ensures))) (⊎-elim (λ w. at-row 0xac refl (omega arith) (omega arith) (of-block (c .before .before .before .before .before .before .args .b) 0xac (w .1) (omega arith) refl (c .block .ensures))) (λ w. at-row 0xae refl (omega arith) (search needs) (of-block (c .before .before .before .before .before .before .args .b) 0xae (w .1) (omega arith) refl (c .block .ensures)))))) (c .before .match .came)
@@ -19,7 +19,7 @@ codesa0-spec =
     (tie.spec
     (λ c κs. search needs)
     (λ c. search needs)
-    (λ c. search needs)
+    (λ c κs. search needs)
     (λ c κs. search needs)
     returns-2
     (λ c κs. search needs)

@@ -4,7 +4,7 @@ use Rattle.fetch.proofs.code_byte.Statement.{statement}
 use Rattle.fetch.proofs.code_byte.Tie as tie
 
 returns : tie.Need-returns
-returns c = byte-reads _ _ _ _ _ _ _ (c .before .plus16 .ensures) (c .read-byte .ensures)
+returns c = byte-reads _ _ _ _ _ _ _ (c .before .wrapping-add-u16 .ensures) (c .read-byte .ensures)
 
 pub code-byte-spec : {M : Type 1} → statement M
 code-byte-spec = tie.close (tie.spec (λ c κs. search needs) (λ c κs. search needs) returns)

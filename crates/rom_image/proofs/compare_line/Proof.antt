@@ -1,4 +1,5 @@
-use Rattle.rom_image.proofs.Agreeing.{compared, text-long, text-within}
+use Rattle.rom_line.proofs.Text.{text-long, text-within}
+use Rattle.rom_image.proofs.Agreeing.{compared}
 use borrow.Author.Needs.{needs}
 use Rattle.rom_image.proofs.compare_line.Statement.{statement}
 use Rattle.rom_image.proofs.compare_line.Tie as tie

@@ -7,7 +7,7 @@ mod edges;
 pub mod encodings;
 mod logs;
 mod programs;
-mod random;
+pub mod random;
 
 use crate::judge::case::Case;
 use draft::Draft;
