@@ -3,3 +3,4 @@ pub mod Reading
 pub mod Comparing
 pub mod Agreeing
 pub mod Rebuilding
+pub mod RoundTrip
