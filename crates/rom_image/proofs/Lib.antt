@@ -4,3 +4,4 @@ pub mod Comparing
 pub mod Agreeing
 pub mod Rebuilding
 pub mod RoundTrip
+pub mod Once
