@@ -42,7 +42,7 @@ module _ (s : State) (ram rom tape log : List ℕ) where
   check-bad x p h k e q z = rw (fit h k, ← e, ← q, z)
 
 pub accepts : (v : ℕ) (s : State) (g ram ram′ rom : List ℕ) (n : Bus) → OnMemory Unit (trap v) (s .file) ram rom tt g ram′ n 8
-    → Accepts v s ram rom 0 (record { file = g; halted = false; tape = s .tape; log = s .log; count = s .count }) ram′ n
+    → Accepts v s ram rom 0 (record { file = g; marks = record { halted = false }; progress = s .progress }) ram′ n
 unfolding interrupting
 accepts v s g ram ram′ rom n h = record { zero = refl; most = h .most; at = λ tape log. seq-last _ (h .at s tape log) (ends-halted false) }
 

@@ -1,6 +1,8 @@
 // What every public call checks first, and the calls that read no instruction: reset and interrupt.
 use registers::PSW;
 use sheet::Bus;
+use sheet::Marks;
+use sheet::Progress;
 use sheet::State;
 ghost use mathlib.Core.Path.{_≡_};
 ghost use Rattle.sheet.specs.World.{world};
@@ -20,10 +22,12 @@ pub fn reset() -> State
 {
     State {
         file: [0, 0, 0, 0, 0, 0, 0, 0, 0, 0xffff, 0, 0, 0, 0xf002],
-        halted: false,
-        tape: 0,
-        log: 0,
-        count: 0,
+        marks: Marks { halted: false },
+        progress: Progress {
+            tape: 0,
+            log: 0,
+            count: 0,
+        },
     }
 }
 
@@ -31,7 +35,8 @@ pub fn reset() -> State
 fn places_good(s: State, tape: &[u8], log: &[u8]) -> bool
     ensures { λ r. ⌜ r ≡ definition.placesGood s (now (tape .entry)) (now (log .entry)) ⌝ }
 {
-    (s.tape <= tape.len()) & ((s.log <= log.len()) & (s.count <= 2097151))
+    (s.progress.tape <= tape.len())
+        & ((s.progress.log <= log.len()) & (s.progress.count <= 2097151))
 }
 
 // 1, 2, or 0 where neither is due.
@@ -59,15 +64,14 @@ fn accept(s: State, ram: &mut [u8], rom: &[u8], vector: u8) -> Answer
     ensures { λ r. ⌜ Accepts vector s (now (ram .entry)) (now (rom .entry)) (r .number) (r .state) (now (ram .exit)) (r .bus) ⌝ }
 {
     let mut file = s.file;
+    let progress = s.progress;
     let b = traps::trap(&mut file, ram, rom, vector);
     Answer {
         number: 0,
         state: State {
             file,
-            halted: false,
-            tape: s.tape,
-            log: s.log,
-            count: s.count,
+            marks: Marks { halted: false },
+            progress,
         },
         bus: b,
     }

@@ -25,10 +25,8 @@ unfoldable pub stateOf : List ℕ → State
 stateOf header =
     record {
       file = fileOf header 14;
-      halted = not (eqb (getD header 1 0) 0);
-      tape = doubleAt header 34;
-      log = doubleAt header 38;
-      count = doubleAt header 42;
+      marks = record { halted = not (eqb (getD header 1 0) 0) };
+      progress = record { tape = doubleAt header 34; log = doubleAt header 38; count = doubleAt header 42 };
     }
 
 unfoldable pub caseOf : List ℕ → Case
@@ -60,7 +58,7 @@ unfoldable pub withPlaces : ℕ → ℕ → ℕ → List ℕ → List ℕ
 withPlaces tape log count l = doublePut (doublePut (doublePut l 38 (tape % 4294967296)) 42 (log % 4294967296)) 46 count
 
 unfoldable pub withCall : ℕ → ℕ → ℕ → State → List ℕ → List ℕ
-withCall number steps cycles s l = withPlaces (s .tape) (s .log) (s .count) (withFile (s .file) 14 (withAnswer number (s .halted) steps cycles l))
+withCall number steps cycles s l = withPlaces (s .progress .tape) (s .progress .log) (s .progress .count) (withFile (s .file) 14 (withAnswer number (s .marks .halted) steps cycles l))
 
 -- with the sums of RAM and log put in
 unfoldable pub withSums : ℕ → ℕ → List ℕ → List ℕ

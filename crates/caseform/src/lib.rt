@@ -4,6 +4,8 @@ use casebytes::put_double;
 use casebytes::put_word;
 use casebytes::word_at;
 use sheet::Entry;
+use sheet::Marks;
+use sheet::Progress;
 use sheet::State;
 ghost use mathlib.Core.Path.{_≡_};
 ghost use Prim.Native.Nat.{_<_};
@@ -52,10 +54,14 @@ pub fn state_of(header: &[u8; 64]) -> State
     let count = double_at(header, 42);
     State {
         file,
-        halted: header[1] != 0,
-        tape: tape as usize,
-        log: log as usize,
-        count,
+        marks: Marks {
+            halted: header[1] != 0,
+        },
+        progress: Progress {
+            tape: tape as usize,
+            log: log as usize,
+            count,
+        },
     }
 }
 
@@ -131,10 +137,10 @@ fn put_places(out: &mut [u8; 58], tape: usize, log: usize, count: u32)
 pub fn put_call(out: &mut [u8; 58], number: u8, steps: u32, cycles: u32, s: State)
     ensures { λ _. ⌜ now (out .exit) ≡ withCall number steps cycles s (now (out .entry)) ⌝ }
 {
-    put_answer(out, number, s.halted, steps, cycles);
+    put_answer(out, number, s.marks.halted, steps, cycles);
     let file = s.file;
     put_file(out, &file);
-    put_places(out, s.tape, s.log, s.count);
+    put_places(out, s.progress.tape, s.progress.log, s.progress.count);
 }
 
 pub fn put_sums(out: &mut [u8; 58], ram: u32, log: u32)

@@ -60,7 +60,9 @@ fn conclude(ram: &mut [u8], rom: &[u8], tape: &[u8], schedule: &[u64], limit: u6
     let mut log = io::large_buffer();
     let s = play(ram, rom, tape, &mut log, schedule, limit);
     let state = s.state;
-    if files::keep(out, &log, state.log) && !report::print_report(s, tape.len(), schedule.len()) {
+    if files::keep(out, &log, state.progress.log)
+        && !report::print_report(s, tape.len(), schedule.len())
+    {
         say(b"v30: cannot write the report\n");
     }
 }

@@ -84,8 +84,8 @@ fn print_calls(s: Session, calls: usize) -> bool {
 pub fn print_report(s: Session, tape: usize, calls: usize) -> bool {
     let state = s.state;
     let file = state.file;
-    let read = state.tape as u64;
-    let written = state.log as u64;
+    let read = state.progress.tape as u64;
+    let written = state.progress.log as u64;
     print_number(b"steps ", s.steps, b"\n")
         & (print_number(b"bus cycles ", s.cycles, b"\n")
             & (print_number(b"tape ", read, b" of ")

@@ -1,43 +1,44 @@
 // HALT, NOP, DI, EI, and CLR1, SET1, NOT1 of CY and DIR.
 use registers::PSW;
 use sheet::Control;
+use sheet::Marks;
 ghost use Rattle.do_control.specs.Controls.{Controls};
 
-// Returns whether the halted mark, which the caller keeps, is to be set.
-pub fn control(file: &mut [u16; 14], i: Control) -> bool
-    ensures { λ r. ⌜ Controls i (now (file .entry)) r (now (file .exit)) ⌝ }
+// Returns the marks afterwards.
+pub fn control(file: &mut [u16; 14], marks: Marks, i: Control) -> Marks
+    ensures { λ r. ⌜ Controls i (now (file .entry)) marks (now (file .exit)) r ⌝ }
 {
     match i {
-        Control::Nop => false,
-        Control::Halt => true,
+        Control::Nop => marks,
+        Control::Halt => Marks { halted: true },
         Control::Di => {
             file[PSW] = psw::with_ie(false, file[PSW]);
-            false
+            marks
         }
         Control::Ei => {
             file[PSW] = psw::with_ie(true, file[PSW]);
-            false
+            marks
         }
         Control::ClrCy => {
             file[PSW] = psw::with_cy(false, file[PSW]);
-            false
+            marks
         }
         Control::SetCy => {
             file[PSW] = psw::with_cy(true, file[PSW]);
-            false
+            marks
         }
         Control::NotCy => {
             let c = flags::cy(file[PSW]);
             file[PSW] = psw::with_cy(!c, file[PSW]);
-            false
+            marks
         }
         Control::ClrDir => {
             file[PSW] = psw::with_dir(false, file[PSW]);
-            false
+            marks
         }
         Control::SetDir => {
             file[PSW] = psw::with_dir(true, file[PSW]);
-            false
+            marks
         }
     }
 }

@@ -5,6 +5,7 @@ use mathlib.Core.List.{List}
 use mathlib.Core.Path.{_≡_, refl}
 use lib.ListN.{getD}
 use Rattle.sheet.specs.declared.Bus.{Bus}
+use Rattle.sheet.specs.declared.Marks.{Marks}
 use Rattle.sheet.specs.declared.Progress.{Progress}
 use Rattle.sheet.specs.declared.Port.{Port}
 use Rattle.sheet.specs.declared.Port.the-variants.{InDw, Numbered}
@@ -53,5 +54,5 @@ module _ (w : Bool) (port : Port) (f g ram rom tape log log′ : List ℕ) (q q�
     same = λ z. (refl, refl, t .same z .0, t .same z .2);
   }
     where
-      value : (h : Bool) → Ends ℕ (regValue w AW) (world (stateOf f h q) ram rom tape log) v (world (stateOf f h q) ram rom tape log) nothing
+      value : (h : Marks) → Ends ℕ (regValue w AW) (world (stateOf f h q) ram rom tape log) v (world (stateOf f h q) ram rom tape log) nothing
       value h = file-reg w AW e .at (stateOf f h q) ram rom tape log

@@ -9,6 +9,7 @@ use borrow.Author.Tests.{eqb-true, eqb-false}
 use Rattle.sheet.specs.declared.Bus.{Bus}
 use Rattle.sheet.specs.declared.State.{State}
 use Rattle.sheet.specs.declared.Instr.{Instr}
+use Rattle.sheet.specs.declared.Marks.{Marks}
 use Rattle.sheet.specs.declared.Progress.{Progress}
 use Rattle.sheet.specs.Registers.{PS, PC}
 use Rattle.sheet.specs.World.{World, world, stateOf}
@@ -24,55 +25,65 @@ use Rattle.answers.proofs.DecodesLaws.{known-reads, unknown-refuses}
 use Rattle.calls.specs.Calls.{checkNumber}
 use Rattle.calls.proofs.Laws.{passed, checked-passed, checked-refused}
 use Rattle.stepper.specs.Proceeds.{Proceeds}
+use Rattle.calls.specs.declared.Answer.{Answer}
+use Rattle.stepper.specs.declared.Stepped.{Stepped}
 use Rattle.engine.specs.declared.Advanced.{Advanced}
-use Rattle.engine.specs.Steps.{placesOf, refusedAt, Advances, Steps}
+use Rattle.engine.specs.Steps.{refusedAt, advancedBy, answerOf, Carries, Advances, Moves, Steps}
 
 -- what a machine that is not halted comes to, by what stands at PS:PC
-pub awake-known : (w : World) (i : Instr) (n : ℕ) → w .state .halted ≡ false → scan instruction (source w) 0 ≡ known i n → awake kept w ≡ runBy kept (stepping i n) (counted w)
+pub awake-known : (w : World) (i : Instr) (n : ℕ) → w .state .marks .halted ≡ false → scan instruction (source w) 0 ≡ known i n → awake kept w ≡ runBy kept (stepping i n) (counted w)
 unfolding awake decoded
 awake-known w i n h e = rw (h, e)
 
-awake-unknown : (w : World) (k : ℕ) → w .state .halted ≡ false → Refuses Instr instruction (source w) 0 k → seen (awake kept w) ≡ stops k
+awake-unknown : (w : World) (k : ℕ) → w .state .marks .halted ≡ false → Refuses Instr instruction (source w) 0 k → seen (awake kept w) ≡ stops k
 unfolding awake decoded
 awake-unknown w k h r = rw (h, r .is)
 
 refused-so : (s : State) (ram rom tape log : List ℕ) (k : ℕ) → seen (awake kept (world s ram rom tape log)) ≡ stops k → Advances s ram rom tape log false k s ram log nothing
 refused-so s ram rom tape log k e = record { most = zero-le; is = e; zero = λ q. cc; same = λ q. (refl, refl, refl, refl) }
 
-module _ (f : List ℕ) (halted : Bool) (q : Progress) (ram rom tape log : List ℕ) where
-  pub advances-halted : (a : Advanced) → halted ≡ true → a ≡ refusedAt halted q 8
-      → Advances (stateOf f halted q) ram rom tape log (a .done) (a .number) (stateOf f (a .halted) (a .progress)) ram log (a .bus)
-  unfolding awake
-  advances-halted a h e = rw e (refused-so (stateOf f halted q) ram rom tape log 8 (rw h))
+pub carries : (i : Instr) (size : ℕ) (f ram rom tape log : List ℕ) (m : Marks) (q : Progress) (y : Stepped) (x : Advanced) (f′ ram′ log′ : List ℕ)
+    → Proceeds i size f ram rom tape log m q (y .number) (y .marks) (y .progress) f′ ram′ log′ (y .bus) → x ≡ advancedBy y → Carries i size f ram rom tape log m q x f′ ram′ log′
+carries i size f ram rom tape log m q y x f′ ram′ log′ p u = rw u (record { told = refl; does = p })
 
-  module _ (ps pc : ℕ) (a : ps ≡ getD f PS 0) (b : pc ≡ getD f PC 0) (h : halted ≡ false) (r : Decoded) (d : Decodes instruction (codeByte ram rom ps pc) 0 r) where
+module _ (f : List ℕ) (m : Marks) (q : Progress) (ram rom tape log : List ℕ) where
+  pub advances-halted : (a : Advanced) → m .halted ≡ true → a ≡ refusedAt m q 8
+      → Advances (stateOf f m q) ram rom tape log (a .done) (a .number) (stateOf f (a .marks) (a .progress)) ram log (a .bus)
+  unfolding awake
+  advances-halted a h e = rw e (refused-so (stateOf f m q) ram rom tape log 8 (rw h))
+
+  module _ (ps pc : ℕ) (a : ps ≡ getD f PS 0) (b : pc ≡ getD f PC 0) (h : m .halted ≡ false) (r : Decoded) (d : Decodes instruction (codeByte ram rom ps pc) 0 r) where
     up : World
-    up = world (stateOf f false q) ram rom tape log
+    up = world (stateOf f m q) ram rom tape log
 
     read : {x : Decoded} → r ≡ x → Decodes instruction (source up) 0 x
     unfolding up
     read e = rw (a, b, e) at d
 
-    pub advances-unknown : (k : ℕ) (x : Advanced) → r ≡ Unknown k → x ≡ refusedAt halted q k
-        → Advances (stateOf f halted q) ram rom tape log (x .done) (x .number) (stateOf f (x .halted) (x .progress)) ram log (x .bus)
+    pub advances-unknown : (k : ℕ) (x : Advanced) → r ≡ Unknown k → x ≡ refusedAt m q k
+        → Advances (stateOf f m q) ram rom tape log (x .done) (x .number) (stateOf f (x .marks) (x .progress)) ram log (x .bus)
     unfolding up
-    advances-unknown k x e u = rw u (refused-so (stateOf f halted q) ram rom tape log k (rw h (awake-unknown up k refl (unknown-refuses k (read e)))))
+    advances-unknown k x e u = rw u (refused-so (stateOf f m q) ram rom tape log k ((awake-unknown up k h (unknown-refuses k (read e)))))
 
-    pub advances-known : (i : Instr) (size number : ℕ) (halted′ : Bool) (q′ : Progress) (f′ ram′ log′ : List ℕ) (n : Bus) → r ≡ Known i size
-        → Proceeds i size f ram rom tape log q number halted′ q′ f′ ram′ log′ n
-        → Advances (stateOf f halted q) ram rom tape log (eqb number 0) number (stateOf f′ halted′ q′) ram′ log′ n
+    advances-read : (i : Instr) (size number : ℕ) (m′ : Marks) (q′ : Progress) (f′ ram′ log′ : List ℕ) (n : Bus) → r ≡ Known i size
+        → Proceeds i size f ram rom tape log m q number m′ q′ f′ ram′ log′ n
+        → Advances (stateOf f m q) ram rom tape log (eqb number 0) number (stateOf f′ m′ q′) ram′ log′ n
     unfolding up exec run
-    advances-known i size number halted′ q′ f′ ram′ log′ n e p = rw h (go (eqb number 0) refl)
+    advances-read i size number m′ q′ f′ ram′ log′ n e p = go (eqb number 0) refl
       where
         known-at : awake kept up ≡ runBy kept (stepping i size) (counted up)
-        known-at = awake-known up i size refl (known-reads i size (read e) .is)
+        known-at = awake-known up i size h (known-reads i size (read e) .is)
 
-        go : (t : Bool) → eqb number 0 ≡ t → Advances (stateOf f false q) ram rom tape log t number (stateOf f′ halted′ q′) ram′ log′ n
+        go : (t : Bool) → eqb number 0 ≡ t → Advances (stateOf f m q) ram rom tape log t number (stateOf f′ m′ q′) ram′ log′ n
         go true y = let z = eqb-true number 0 y in record { most = p .most; is = rw known-at (p .done z .is); zero = λ t. z; same = λ t. absurd (true≢false t) }
         go false y =
             let z = eqb-false number 0 y in
-            let (u, x, g, k, l, m) = p .same z in
-            record { most = p .most; is = rw known-at (p .stop z .is); zero = λ t. cc; same = λ t. (rw (u, k, l), x, g, m) }
+            let (u, x, g, k, l, o) = p .same z in
+            record { most = p .most; is = rw known-at (p .stop z .is); zero = λ t. cc; same = λ t. (rw (u, k, l), x, g, o) }
+
+    pub advances-known : (i : Instr) (size : ℕ) (x : Advanced) (f′ ram′ log′ : List ℕ) → r ≡ Known i size → Carries i size f ram rom tape log m q x f′ ram′ log′
+        → Advances (stateOf f m q) ram rom tape log (x .done) (x .number) (stateOf f′ (x .marks) (x .progress)) ram′ log′ (x .bus)
+    advances-known i size x f′ ram′ log′ e p = rw (p .told) (advances-read i size (x .number) (x .marks) (x .progress) f′ ram′ log′ (x .bus) e (p .does))
 
 -- what an instruction reports, by whether it is done
 report-advanced : (s : State) (ram rom tape log : List ℕ) (done : Bool) (number : ℕ) (s′ : State) (ram′ log′ : List ℕ) (n : Bus)
@@ -80,6 +91,12 @@ report-advanced : (s : State) (ram rom tape log : List ℕ) (done : Bool) (numbe
     → reportOf (world s ram rom tape log) (seen (awake kept (world s ram rom tape log))) ≡ report number (world s′ ram′ rom tape log′) n
 report-advanced s ram rom tape log true number s′ ram′ log′ n p = rw (p .is, p .zero refl)
 report-advanced s ram rom tape log false number s′ ram′ log′ n p = let (a, b, c, d) = p .same refl in rw (p .is, a, b, c, d)
+
+pub moves : (s : State) (ram rom tape log : List ℕ) (a : Advanced) (x : Answer) (f ram′ log′ : List ℕ)
+    → Advances s ram rom tape log (a .done) (a .number) (stateOf f (a .marks) (a .progress)) ram′ log′ (a .bus) → x ≡ answerOf f a
+    → Moves s ram rom tape log (x .number) (x .state) ram′ log′ (x .bus)
+moves s ram rom tape log a x f ram′ log′ p u =
+    rw u (record { most = p .most; is = report-advanced s ram rom tape log (a .done) (a .number) (stateOf f (a .marks) (a .progress)) ram′ log′ (a .bus) p })
 
 module _ (s : State) (ram rom tape log : List ℕ) (number : ℕ) (e : number ≡ checkNumber (world s ram rom tape log)) where
   w : World
@@ -89,10 +106,8 @@ module _ (s : State) (ram rom tape log : List ℕ) (number : ℕ) (e : number �
   unfolding w stepReport step stepBy
   refused-first z = record { most = zero-le; is = ap (λ (o : Outcome Unit). reportOf w (seen o)) (checked-refused w refusal _ number e z) }
 
-  pub steps : (q q′ : Progress) (done halted : Bool) (r : ℕ) (x : State) (f ram′ log′ : List ℕ) (n : Bus) → number ≡ 0 → q ≡ placesOf s → x ≡ stateOf f halted q′
-      → Advances (stateOf (s .file) (s .halted) q) ram rom tape log done r (stateOf f halted q′) ram′ log′ n → Steps s ram rom tape log r x ram′ log′ n
+  pub steps : (r : ℕ) (x : State) (ram′ log′ : List ℕ) (n : Bus) → number ≡ 0 → Moves s ram rom tape log r x ram′ log′ n → Steps s ram rom tape log r x ram′ log′ n
   unfolding w stepReport step stepBy
-  steps q q′ done halted r x f ram′ log′ n z u v p =
-      let a : Advances s ram rom tape log done r x ram′ log′ n = rw v (rw u at p) in
+  steps r x ram′ log′ n z p =
       let c = checked-passed w refusal (awake kept w) (passed w (sym e ∙ z)) in
-      record { most = p .most; is = ap (λ (o : Outcome Unit). reportOf w (seen o)) c ∙ report-advanced s ram rom tape log done r x ram′ log′ n a }
+      record { most = p .most; is = ap (λ (o : Outcome Unit). reportOf w (seen o)) c ∙ p .is }

@@ -8,6 +8,7 @@ use lib.ListN.{length}
 use borrow.Author.Tests.{le-leb}
 use Rattle.sheet.specs.declared.Bus.{Bus}
 use Rattle.sheet.specs.declared.State.{State}
+use Rattle.sheet.specs.declared.Marks.{Marks}
 use Rattle.sheet.specs.declared.Progress.{Progress}
 use Rattle.sheet.specs.World.{World, world, stateOf}
 use Rattle.sheet.specs.Handler.{Event, Outcome, refused, done, kept, nothing, _⊕_, tally}
@@ -18,7 +19,7 @@ use Rattle.sheet.proofs.Lent.{Lent, Sound}
 use Rattle.sheet.proofs.StepLaws.{step-leaves}
 use Rattle.calls.specs.Calls.{checkNumber}
 use Rattle.calls.proofs.Laws.{passed, checked-passed, checked-refused}
-use Rattle.engine.specs.Steps.{placesOf, Advances}
+use Rattle.engine.specs.Steps.{Advances}
 use Rattle.engine.specs.Runs.{Runs}
 
 -- what two lists of events come to
@@ -104,13 +105,9 @@ continues-start w h e =
     }
 
 -- the run keeps the state in its parts
-pub continues-none : (s : State) (q : Progress) (ram rom tape log : List ℕ) → length (s .file) ≡ 14 → checkNumber (world s ram rom tape log) ≡ 0 → q ≡ placesOf s
-    → Continues (world (stateOf (s .file) (s .halted) q) ram rom tape log) (world (stateOf (s .file) (s .halted) q) ram rom tape log) 0 0
-continues-none s q ram rom tape log h e u = rw u (continues-start (world s ram rom tape log) h e)
-
-pub of-parts : {budget : ℕ} {s x : State} {q : Progress} {ram rom tape log ram′ log′ : List ℕ} {number k : ℕ} {n : Bus} → q ≡ placesOf s
-    → Runs budget (stateOf (s .file) (s .halted) q) ram rom tape log number x ram′ log′ k n → Runs budget s ram rom tape log number x ram′ log′ k n
-of-parts u r = rw u at r
+pub continues-none : (s : State) (ram rom tape log : List ℕ) → length (s .file) ≡ 14 → checkNumber (world s ram rom tape log) ≡ 0
+    → Continues (world s ram rom tape log) (world s ram rom tape log) 0 0
+continues-none s ram rom tape log h e = continues-start (world s ram rom tape log) h e
 
 module _ {w : World} {s : State} {ram rom tape log : List ℕ} {k c : ℕ} (p : Continues w (world s ram rom tape log) k c) where
   v : World
@@ -163,11 +160,11 @@ pub runs-on : (budget : ℕ) (w : World) → (fits w ≡ true) × (sound w ≡ t
 unfolding runs runsBy
 runs-on budget w = checked-passed w (λ n. ran n w 0 []) (stepsBy (λ i. kept) budget w)
 
-module _ {budget : ℕ} {s : State} {ram rom tape log f ram₁ log₁ : List ℕ} {halted : Bool} {q : Progress} {k c : ℕ}
-    (p : Continues (world s ram rom tape log) (world (stateOf f halted q) ram₁ rom tape log₁) k c) where
+module _ {budget : ℕ} {s : State} {ram rom tape log f ram₁ log₁ : List ℕ} {m : Marks} {q : Progress} {k c : ℕ}
+    (p : Continues (world s ram rom tape log) (world (stateOf f m q) ram₁ rom tape log₁) k c) where
   -- the state that is handed back is put together from the registers after the refused call, which left them
-  pub runs-stop : {t : Bool} {number : ℕ} {halted′ : Bool} {q′ : Progress} {x : State} {f′ ram′ log′ : List ℕ} {n : Bus} → k < budget → t ≡ false
-      → Advances (stateOf f halted q) ram₁ rom tape log₁ t number (stateOf f′ halted′ q′) ram′ log′ n → x ≡ stateOf f′ halted q
+  pub runs-stop : {t : Bool} {number : ℕ} {m′ : Marks} {q′ : Progress} {x : State} {f′ ram′ log′ : List ℕ} {n : Bus} → k < budget → t ≡ false
+      → Advances (stateOf f m q) ram₁ rom tape log₁ t number (stateOf f′ m′ q′) ram′ log′ n → x ≡ stateOf f′ m q
       → Runs budget s ram rom tape log number x ram′ log′ k (record { cycles = c })
   unfolding v
   runs-stop {number = number} h e a u =
@@ -179,7 +176,7 @@ module _ {budget : ℕ} {s : State} {ram rom tape log f ram₁ log₁ : List ℕ
         is = rw (u, file-same, ram-same, log-same) (ap ranReport (runs-on budget _ (p .accepted)) ∙ continues-stop p budget number h (rw e at (a .is)));
       }
 
-  pub runs-end : {x : State} → k ≤ budget → budget ≤ k → x ≡ stateOf f halted q → Runs budget s ram rom tape log 0 x ram₁ log₁ k (record { cycles = c })
+  pub runs-end : {x : State} → k ≤ budget → budget ≤ k → x ≡ stateOf f m q → Runs budget s ram rom tape log 0 x ram₁ log₁ k (record { cycles = c })
   unfolding v
   runs-end h l u = record { within = h; most = p .most; is = rw u (ap ranReport (runs-on budget _ (p .accepted)) ∙ continues-end p budget (omega arith)) }
 

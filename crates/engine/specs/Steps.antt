@@ -2,21 +2,35 @@
 use Prim.Native.Nat.{ℕ, _≤_}
 use mathlib.Core.Bool.{Bool, true, false}
 use mathlib.Core.List.{List}
+use lib.Dec.{eqb}
 use mathlib.Core.Path.{_≡_}
 use Rattle.sheet.specs.declared.Bus.{Bus}
 use Rattle.sheet.specs.declared.State.{State}
+use Rattle.sheet.specs.declared.Marks.{Marks}
 use Rattle.sheet.specs.declared.Progress.{Progress}
-use Rattle.sheet.specs.World.{World, world}
+use Rattle.sheet.specs.World.{World, world, stateOf}
 use Rattle.sheet.specs.Handler.{kept, nothing}
-use Rattle.sheet.specs.Contract.{Seen, stops, ends, seen, report}
+use Rattle.sheet.specs.Contract.{Seen, stops, ends, seen, report, reportOf}
 use Rattle.sheet.specs.Step.{awake, stepReport}
+use Rattle.calls.specs.declared.Answer.{Answer}
+use Rattle.sheet.specs.declared.Instr.{Instr}
+use Rattle.stepper.specs.Proceeds.{Proceeds}
+use Rattle.stepper.specs.declared.Stepped.{Stepped}
 use Rattle.engine.specs.declared.Advanced.{Advanced}
 
-abbrev pub placesOf : State → Progress
-placesOf s = record { tape = s .tape; log = s .log; count = s .count }
+abbrev pub refusedAt : Marks → Progress → ℕ → Advanced
+refusedAt m q number = record { done = false; number = number; marks = m; progress = q; bus = nothing }
 
-abbrev pub refusedAt : Bool → Progress → ℕ → Advanced
-refusedAt halted q number = record { done = false; number = number; halted = halted; progress = q; bus = nothing }
+abbrev pub advancedBy : Stepped → Advanced
+advancedBy a = record { done = eqb (a .number) 0; number = a .number; marks = a .marks; progress = a .progress; bus = a .bus }
+
+-- an instruction that was read
+pub record Carries (i : Instr) (size : ℕ) (f ram rom tape log : List ℕ) (m : Marks) (q : Progress) (x : Advanced) (f′ ram′ log′ : List ℕ) : Type 0 where
+  pub told : x .done ≡ eqb (x .number) 0
+  pub does : Proceeds i size f ram rom tape log m q (x .number) (x .marks) (x .progress) f′ ram′ log′ (x .bus)
+
+abbrev pub answerOf : List ℕ → Advanced → Answer
+answerOf f a = record { number = a .number; state = stateOf f (a .marks) (a .progress); bus = a .bus }
 
 -- what is seen of a step that is done, or that is refused by a number
 abbrev pub seenBy : (done : Bool) (number : ℕ) → World → Bus → Seen Unit
@@ -29,6 +43,11 @@ pub record Advances (s : State) (ram rom tape log : List ℕ) (done : Bool) (num
   pub is : seen (awake kept (world s ram rom tape log)) ≡ seenBy done number (world s′ ram′ rom tape log′) n
   pub zero : done ≡ true → number ≡ 0
   pub same : done ≡ false → (s′ ≡ s) × (ram′ ≡ ram) × (log′ ≡ log) × (n ≡ nothing)
+
+-- the same as a report
+pub record Moves (s : State) (ram rom tape log : List ℕ) (number : ℕ) (s′ : State) (ram′ log′ : List ℕ) (n : Bus) : Type 0 where
+  pub most : n .cycles ≤ 1028
+  pub is : reportOf (world s ram rom tape log) (seen (awake kept (world s ram rom tape log))) ≡ report number (world s′ ram′ rom tape log′) n
 
 -- what a step reports is what the definition says, and it takes at most 1,028 bus cycles
 pub record Steps (s : State) (ram rom tape log : List ℕ) (number : ℕ) (s′ : State) (ram′ log′ : List ℕ) (n : Bus) : Type 0 where

@@ -4,19 +4,22 @@ use calls::Answer;
 use registers::PC;
 use registers::PS;
 use sheet::Bus;
+use sheet::Instr;
+use sheet::Marks;
 use sheet::Progress;
 use sheet::State;
+use stepper::Stepped;
 ghost use mathlib.Core.Path.{_≡_};
 ghost use Rattle.sheet.specs.World.{world, stateOf};
 ghost use Rattle.calls.specs.Calls.{checkNumber};
-ghost use Rattle.engine.specs.Steps.{placesOf, refusedAt, Advances, Steps};
+ghost use Rattle.engine.specs.Steps.{refusedAt, advancedBy, answerOf, Carries, Advances, Moves, Steps};
 ghost use Rattle.engine.specs.Runs.{Runs};
 
-// What comes of a step: done, or the number of its refusal, after which nothing has changed; the halted mark, the places, the bus.
+// What comes of a step: done, or the number of its refusal, after which nothing has changed; the marks, the places, the bus.
 pub struct Advanced {
     pub done: bool,
     pub number: u8,
-    pub halted: bool,
+    pub marks: Marks,
     pub progress: Progress,
     pub bus: Bus,
 }
@@ -30,16 +33,48 @@ pub struct Ran {
 }
 
 // A refused step.
-fn refuse(halted: bool, q: Progress, number: u8) -> Advanced
-    ensures { λ r. ⌜ r ≡ refusedAt halted q number ⌝ }
+fn refuse(marks: Marks, q: Progress, number: u8) -> Advanced
+    ensures { λ r. ⌜ r ≡ refusedAt marks q number ⌝ }
 {
     Advanced {
         done: false,
         number,
-        halted,
+        marks,
         progress: q,
         bus: Bus { cycles: 0 },
     }
+}
+
+fn shown(a: Stepped) -> Advanced
+    ensures { λ r. ⌜ r ≡ advancedBy a ⌝ }
+{
+    let marks = a.marks;
+    let progress = a.progress;
+    let bus = a.bus;
+    Advanced {
+        done: a.number == 0,
+        number: a.number,
+        marks,
+        progress,
+        bus,
+    }
+}
+
+// An instruction that was read.
+fn carry_out(
+    file: &mut [u16; 14],
+    ram: &mut [u8],
+    rom: &[u8],
+    tape: &[u8],
+    log: &mut [u8],
+    marks: Marks,
+    q: Progress,
+    i: Instr,
+    size: u16,
+) -> Advanced
+    ensures { λ r. ⌜ Carries i size (now (file .entry)) (now (ram .entry)) (now (rom .entry)) (now (tape .entry)) (now (log .entry)) marks q r (now (file .exit)) (now (ram .exit)) (now (log .exit)) ⌝ }
+{
+    shown(stepper::proceed(file, ram, rom, tape, log, marks, q, i, size))
 }
 
 // The instruction at PS:PC, of a machine that has passed the checks 1 and 2.
@@ -49,52 +84,67 @@ pub fn advance(
     rom: &[u8],
     tape: &[u8],
     log: &mut [u8],
-    halted: bool,
+    marks: Marks,
     q: Progress,
 ) -> Advanced
-    ensures { λ r. ⌜ Advances (stateOf (now (file .entry)) halted q) (now (ram .entry)) (now (rom .entry)) (now (tape .entry)) (now (log .entry)) (r .done) (r .number) (stateOf (now (file .exit)) (r .halted) (r .progress)) (now (ram .exit)) (now (log .exit)) (r .bus) ⌝ }
+    ensures { λ r. ⌜ Advances (stateOf (now (file .entry)) marks q) (now (ram .entry)) (now (rom .entry)) (now (tape .entry)) (now (log .entry)) (r .done) (r .number) (stateOf (now (file .exit)) (r .marks) (r .progress)) (now (ram .exit)) (now (log .exit)) (r .bus) ⌝ }
 {
-    if halted {
-        return refuse(halted, q, 8);
+    if marks.halted {
+        return refuse(marks, q, 8);
     }
     match decode::decode(ram, rom, file[PS], file[PC]) {
-        Decoded::Known { instr, size } => {
-            let a = stepper::proceed(file, ram, rom, tape, log, q, instr, size);
-            let progress = a.progress;
-            let bus = a.bus;
-            Advanced {
-                done: a.number == 0,
-                number: a.number,
-                halted: a.halted,
-                progress,
-                bus,
-            }
-        }
-        Decoded::Unknown { number } => refuse(halted, q, number),
+        Decoded::Known { instr, size } => carry_out(
+            file,
+            ram,
+            rom,
+            tape,
+            log,
+            marks,
+            q,
+            instr,
+            size,
+        ),
+        Decoded::Unknown { number } => refuse(marks, q, number),
     }
 }
 
-// Where a state stands on its tape and log, with its count; and the state again from its parts.
-fn places_of(s: State) -> Progress
-    ensures { λ r. ⌜ r ≡ placesOf s ⌝ }
-{
-    Progress {
-        tape: s.tape,
-        log: s.log,
-        count: s.count,
-    }
-}
-
-fn state_of(file: [u16; 14], halted: bool, q: Progress) -> State
-    ensures { λ r. ⌜ r ≡ stateOf file halted q ⌝ }
+// A state from its parts.
+fn state_of(file: [u16; 14], marks: Marks, q: Progress) -> State
+    ensures { λ r. ⌜ r ≡ stateOf file marks q ⌝ }
 {
     State {
         file,
-        halted,
-        tape: q.tape,
-        log: q.log,
-        count: q.count,
+        marks,
+        progress: q,
     }
+}
+
+fn answer(file: [u16; 14], a: Advanced) -> Answer
+    ensures { λ r. ⌜ r ≡ answerOf file a ⌝ }
+{
+    let marks = a.marks;
+    let progress = a.progress;
+    let bus = a.bus;
+    Answer {
+        number: a.number,
+        state: State {
+            file,
+            marks,
+            progress,
+        },
+        bus,
+    }
+}
+
+// One step of a machine that has passed the checks 1 and 2.
+fn move_on(s: State, ram: &mut [u8], rom: &[u8], tape: &[u8], log: &mut [u8]) -> Answer
+    ensures { λ r. ⌜ Moves s (now (ram .entry)) (now (rom .entry)) (now (tape .entry)) (now (log .entry)) (r .number) (r .state) (now (ram .exit)) (now (log .exit)) (r .bus) ⌝ }
+{
+    let mut file = s.file;
+    let marks = s.marks;
+    let q = s.progress;
+    let a = advance(&mut file, ram, rom, tape, log, marks, q);
+    answer(file, a)
 }
 
 // One step: checks 1, 2, 8, then the instruction.
@@ -109,17 +159,7 @@ pub fn step(s: State, ram: &mut [u8], rom: &[u8], tape: &[u8], log: &mut [u8]) -
             bus: Bus { cycles: 0 },
         };
     }
-    let mut file = s.file;
-    let q = places_of(s);
-    let a = advance(&mut file, ram, rom, tape, log, s.halted, q);
-    let to = a.progress;
-    let bus = a.bus;
-    let state = state_of(file, a.halted, to);
-    Answer {
-        number: a.number,
-        state,
-        bus,
-    }
+    move_on(s, ram, rom, tape, log)
 }
 
 // Steps of a machine that has passed the checks 1 and 2, until one refuses or the budget is spent.
@@ -128,14 +168,14 @@ fn go_on(s: State, ram: &mut [u8], rom: &[u8], tape: &[u8], log: &mut [u8], budg
     ensures { λ r. ⌜ Runs budget s (now (ram .entry)) (now (rom .entry)) (now (tape .entry)) (now (log .entry)) (r .number) (r .state) (now (ram .exit)) (now (log .exit)) (r .steps) (r .bus) ⌝ }
 {
     let mut file = s.file;
-    let mut halted = s.halted;
-    let mut q = places_of(s);
+    let mut marks = s.marks;
+    let mut q = s.progress;
     let mut steps: u16 = 0;
     let mut cycles: u32 = 0;
     while steps < budget {
-        let a = advance(&mut file, ram, rom, tape, log, halted, q);
+        let a = advance(&mut file, ram, rom, tape, log, marks, q);
         if !a.done {
-            let state = state_of(file, halted, q);
+            let state = state_of(file, marks, q);
             return Ran {
                 number: a.number,
                 state,
@@ -143,12 +183,12 @@ fn go_on(s: State, ram: &mut [u8], rom: &[u8], tape: &[u8], log: &mut [u8], budg
                 bus: Bus { cycles },
             };
         }
-        halted = a.halted;
+        marks = a.marks;
         q = a.progress;
         cycles = cycles + a.bus.cycles;
         steps = steps + 1;
     }
-    let state = state_of(file, halted, q);
+    let state = state_of(file, marks, q);
     Ran {
         number: 0,
         state,

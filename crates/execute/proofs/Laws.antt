@@ -5,6 +5,7 @@ use mathlib.Core.List.{List}
 use mathlib.Core.Path.{_≡_, refl}
 use native.Mathlib.Nat.{le-trans}
 use Rattle.sheet.specs.declared.Bus.{Bus}
+use Rattle.sheet.specs.declared.Marks.{Marks}
 use Rattle.sheet.specs.declared.Progress.{Progress}
 use Rattle.sheet.specs.declared.Multiply.{Multiply}
 use Rattle.sheet.specs.declared.Interrupt.{Interrupt}
@@ -36,44 +37,44 @@ use Rattle.execute.specs.Performs.{Performs}
 
 -- ---- any tree
 
-module _ (p : Act Unit) (f g ram ram′ rom tape log : List ℕ) (q : Progress) where
+module _ (p : Act Unit) (f g ram ram′ rom tape log : List ℕ) (h : Marks) (q : Progress) where
   -- code that is lent the memory
-  pub quiet-is : (n : Bus) (k : ℕ) → k ≤ 1020 → OnMemory Unit p f ram rom tt g ram′ n k → Performs (untrapped p) f ram rom tape log q 0 false false g ram′ log q n
+  pub quiet-is : (n : Bus) (k : ℕ) → k ≤ 1020 → OnMemory Unit p f ram rom tt g ram′ n k → Performs (untrapped p) f ram rom tape log h q 0 false h g ram′ log q n
   unfolding untrapped
-  quiet-is n k m h = record {
-    most = le-trans (h .most) m;
-    done = λ z b. seq-last _ (h .at (stateOf f b q) tape log) ends-pure;
+  quiet-is n t m k = record {
+    most = le-trans (k .most) m;
+    done = λ z. seq-last _ (k .at (stateOf f h q) tape log) ends-pure;
     stop = λ z. absurd (z refl);
     same = λ z. absurd (z refl);
   }
 
   -- code that is lent the ports too
   pub ported-is : (log′ : List ℕ) (q′ : Progress) (number : ℕ) (n : Bus) (k : ℕ) → k ≤ 1020 → OnPorts p f ram rom tape log q number g ram′ log′ q′ n k
-      → Performs (untrapped p) f ram rom tape log q number false false g ram′ log′ q′ n
+      → Performs (untrapped p) f ram rom tape log h q number false h g ram′ log′ q′ n
   unfolding untrapped
-  ported-is log′ q′ number n k m h = record {
-    most = le-trans (h .most) m;
-    done = λ z b. seq-last _ (h .done z b) ends-pure;
-    stop = λ z b. seq-stops _ (h .stop z b);
-    same = h .same;
+  ported-is log′ q′ number n t m k = record {
+    most = le-trans (k .most) m;
+    done = λ z. seq-last _ (k .done z h) ends-pure;
+    stop = λ z. seq-stops _ (k .stop z h);
+    same = k .same;
   }
 
 -- code that says itself whether it took a trap
-pub worked-is : (p : Act Bool) (f g ram ram′ rom tape log : List ℕ) (q : Progress) (t : Bool) (n : Bus) (k : ℕ) → k ≤ 1020 → OnMemory Bool p f ram rom t g ram′ n k
-    → Performs p f ram rom tape log q 0 t false g ram′ log q n
-worked-is p f g ram ram′ rom tape log q t n k m h = record {
-  most = le-trans (h .most) m;
-  done = λ z b. h .at (stateOf f b q) tape log;
+pub worked-is : (p : Act Bool) (f g ram ram′ rom tape log : List ℕ) (h : Marks) (q : Progress) (t : Bool) (n : Bus) (k : ℕ) → k ≤ 1020 → OnMemory Bool p f ram rom t g ram′ n k
+    → Performs p f ram rom tape log h q 0 t h g ram′ log q n
+worked-is p f g ram ram′ rom tape log h q t n j m k = record {
+  most = le-trans (k .most) m;
+  done = λ z. k .at (stateOf f h q) tape log;
   stop = λ z. absurd (z refl);
   same = λ z. absurd (z refl);
 }
 
-pub control-is : (t : Control) (f g ram rom tape log : List ℕ) (q : Progress) (halts : Bool) → do-control.Controls t f halts g
-    → Performs (untrapped (control t)) f ram rom tape log q 0 false halts g ram log q nothing
+pub control-is : (t : Control) (f g ram rom tape log : List ℕ) (h : Marks) (q : Progress) (h′ : Marks) → do-control.Controls t f h g h′
+    → Performs (untrapped (control t)) f ram rom tape log h q 0 false h′ g ram log q nothing
 unfolding untrapped
-control-is t f g ram rom tape log q halts h = record {
+control-is t f g ram rom tape log h q h′ k = record {
   most = zero-le;
-  done = λ z b. seq-free _ (h .at (stateOf f b q) ram rom tape log) ends-pure;
+  done = λ z. seq-free _ (k .at q ram rom tape log) ends-pure;
   stop = λ z. absurd (z refl);
   same = λ z. absurd (z refl);
 }
@@ -111,26 +112,26 @@ module _ (i : Instr) (start : ℕ) where
 
 -- ---- what the code hands on
 
-abbrev pub Comes : Act Bool → (f ram rom tape log : List ℕ) → Progress → Performed → (g ram′ log′ : List ℕ) → Type 0
-Comes o f ram rom tape log q x g ram′ log′ = Performs o f ram rom tape log q (x .number) (x .trapped) (x .halts) g ram′ log′ (x .progress) (x .bus)
+abbrev pub Comes : Act Bool → (f ram rom tape log : List ℕ) → Marks → Progress → Performed → (g ram′ log′ : List ℕ) → Type 0
+Comes o f ram rom tape log h q x g ram′ log′ = Performs o f ram rom tape log h q (x .number) (x .trapped) (x .marks) g ram′ log′ (x .progress) (x .bus)
 
-abbrev pub handed : ℕ → Bool → Bool → Progress → Bus → Performed
-handed number trapped halts q n = record { number = number; trapped = trapped; halts = halts; progress = q; bus = n }
+abbrev pub handed : ℕ → Bool → Marks → Progress → Bus → Performed
+handed number trapped h q n = record { number = number; trapped = trapped; marks = h; progress = q; bus = n }
 
-module _ (o : Act Bool) (f g ram ram′ rom tape log : List ℕ) (q : Progress) (x : Performed) where
-  pub at-quiet : (p : Act Unit) (n : Bus) (k : ℕ) → o ≡ untrapped p → k ≤ 1020 → OnMemory Unit p f ram rom tt g ram′ n k → x ≡ handed 0 false false q n
-      → Comes o f ram rom tape log q x g ram′ log
-  at-quiet p n k e m h u = rw (e, u) (quiet-is p f g ram ram′ rom tape log q n k m h)
+module _ (o : Act Bool) (f g ram ram′ rom tape log : List ℕ) (h : Marks) (q : Progress) (x : Performed) where
+  pub at-quiet : (p : Act Unit) (n : Bus) (k : ℕ) → o ≡ untrapped p → k ≤ 1020 → OnMemory Unit p f ram rom tt g ram′ n k → x ≡ handed 0 false h q n
+      → Comes o f ram rom tape log h q x g ram′ log
+  at-quiet p n k e m j u = rw (e, u) (quiet-is p f g ram ram′ rom tape log h q n k m j)
 
-  pub at-told : (p : Act Bool) (y : Worked) (k : ℕ) → o ≡ p → k ≤ 1020 → OnMemory Bool p f ram rom (y .trapped) g ram′ (y .bus) k → x ≡ handed 0 (y .trapped) false q (y .bus)
-      → Comes o f ram rom tape log q x g ram′ log
-  at-told p y k e m h u = rw (e, u) (worked-is p f g ram ram′ rom tape log q (y .trapped) (y .bus) k m h)
+  pub at-told : (p : Act Bool) (y : Worked) (k : ℕ) → o ≡ p → k ≤ 1020 → OnMemory Bool p f ram rom (y .trapped) g ram′ (y .bus) k → x ≡ handed 0 (y .trapped) h q (y .bus)
+      → Comes o f ram rom tape log h q x g ram′ log
+  at-told p y k e m j u = rw (e, u) (worked-is p f g ram ram′ rom tape log h q (y .trapped) (y .bus) k m j)
 
   pub at-through : (p : Act Unit) (r : Ported) (log′ : List ℕ) (k : ℕ) → o ≡ untrapped p → k ≤ 1020
-      → OnPorts p f ram rom tape log q (r .number) g ram′ log′ (r .progress) (r .bus) k → x ≡ handed (r .number) false false (r .progress) (r .bus)
-      → Comes o f ram rom tape log q x g ram′ log′
-  at-through p r log′ k e m h u = rw (e, u) (ported-is p f g ram ram′ rom tape log q log′ (r .progress) (r .number) (r .bus) k m h)
+      → OnPorts p f ram rom tape log q (r .number) g ram′ log′ (r .progress) (r .bus) k → x ≡ handed (r .number) false h (r .progress) (r .bus)
+      → Comes o f ram rom tape log h q x g ram′ log′
+  at-through p r log′ k e m j u = rw (e, u) (ported-is p f g ram ram′ rom tape log h q log′ (r .progress) (r .number) (r .bus) k m j)
 
-pub at-control : (o : Act Bool) (f g ram rom tape log : List ℕ) (q : Progress) (t : Control) (halts : Bool) → o ≡ untrapped (control t) → do-control.Controls t f halts g
-    → Performs o f ram rom tape log q 0 false halts g ram log q nothing
-at-control o f g ram rom tape log q t halts e h = rw e (control-is t f g ram rom tape log q halts h)
+pub at-control : (o : Act Bool) (f g ram rom tape log : List ℕ) (h : Marks) (q : Progress) (t : Control) (h′ : Marks) → o ≡ untrapped (control t) → do-control.Controls t f h g h′
+    → Performs o f ram rom tape log h q 0 false h′ g ram log q nothing
+at-control o f g ram rom tape log h q t h′ e k = rw e (control-is t f g ram rom tape log h q h′ k)

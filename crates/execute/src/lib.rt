@@ -2,6 +2,7 @@
 use ports::Ported;
 use sheet::Bus;
 use sheet::Instr;
+use sheet::Marks;
 use sheet::Progress;
 use traps::Worked;
 ghost use mathlib.Core.Path.{_≡_};
@@ -9,34 +10,35 @@ ghost use mathlib.Core.Bool.{false};
 ghost use Rattle.sheet.specs.Execute.{operation};
 ghost use Rattle.execute.specs.Performs.{Performs};
 
-// What an instruction came to: the refusal's number, whether it took a trap itself, whether it halts, the places, the bus.
+// What an instruction came to: the refusal's number, whether it took a trap itself, the marks, the places, the bus.
 pub struct Performed {
     pub number: u8,
     pub trapped: bool,
-    pub halts: bool,
+    pub marks: Marks,
     pub progress: Progress,
     pub bus: Bus,
 }
 
 // One that says itself whether it took a trap.
-fn told(q: Progress, w: Worked) -> Performed
-    ensures { λ r. ⌜ r ≡ record { number = 0; trapped = w .trapped; halts = false; progress = q; bus = w .bus } ⌝ }
+fn told(m: Marks, q: Progress, w: Worked) -> Performed
+    ensures { λ r. ⌜ r ≡ record { number = 0; trapped = w .trapped; marks = m; progress = q; bus = w .bus } ⌝ }
 {
     let b = w.bus;
     Performed {
         number: 0,
         trapped: w.trapped,
-        halts: false,
+        marks: m,
         progress: q,
         bus: b,
     }
 }
 
 // One that takes no trap and uses no port.
-fn quiet(q: Progress, b: Bus) -> Performed
-    ensures { λ r. ⌜ r ≡ record { number = 0; trapped = false; halts = false; progress = q; bus = b } ⌝ }
+fn quiet(m: Marks, q: Progress, b: Bus) -> Performed
+    ensures { λ r. ⌜ r ≡ record { number = 0; trapped = false; marks = m; progress = q; bus = b } ⌝ }
 {
     told(
+        m,
         q,
         Worked {
             trapped: false,
@@ -46,15 +48,15 @@ fn quiet(q: Progress, b: Bus) -> Performed
 }
 
 // One that may have used a port.
-fn through(r: Ported) -> Performed
-    ensures { λ x. ⌜ x ≡ record { number = r .number; trapped = false; halts = false; progress = r .progress; bus = r .bus } ⌝ }
+fn through(m: Marks, r: Ported) -> Performed
+    ensures { λ x. ⌜ x ≡ record { number = r .number; trapped = false; marks = m; progress = r .progress; bus = r .bus } ⌝ }
 {
     let p = r.progress;
     let b = r.bus;
     Performed {
         number: r.number,
         trapped: false,
-        halts: false,
+        marks: m,
         progress: p,
         bus: b,
     }
@@ -67,17 +69,18 @@ pub fn perform(
     rom: &[u8],
     tape: &[u8],
     log: &mut [u8],
+    m: Marks,
     q: Progress,
     i: Instr,
     start: u16,
 ) -> Performed
-    ensures { λ r. ⌜ Performs (operation i start) (now (file .entry)) (now (ram .entry)) (now (rom .entry)) (now (tape .entry)) (now (log .entry)) q (r .number) (r .trapped) (r .halts) (now (file .exit)) (now (ram .exit)) (now (log .exit)) (r .progress) (r .bus) ⌝ }
+    ensures { λ r. ⌜ Performs (operation i start) (now (file .entry)) (now (ram .entry)) (now (rom .entry)) (now (tape .entry)) (now (log .entry)) m q (r .number) (r .trapped) (r .marks) (now (file .exit)) (now (ram .exit)) (now (log .exit)) (r .progress) (r .bus) ⌝ }
 {
     match i {
-        Instr::Computes(t) => quiet(q, do_plain::compute(file, ram, rom, t)),
-        Instr::Moves(t) => quiet(q, do_plain::moves(file, ram, rom, t)),
-        Instr::Multiplies(t) => told(q, do_multiply::multiply(file, ram, rom, t)),
-        Instr::Interrupts(t) => told(q, do_interrupt::interrupt(file, ram, rom, t)),
+        Instr::Computes(t) => quiet(m, q, do_plain::compute(file, ram, rom, t)),
+        Instr::Moves(t) => quiet(m, q, do_plain::moves(file, ram, rom, t)),
+        Instr::Multiplies(t) => told(m, q, do_multiply::multiply(file, ram, rom, t)),
+        Instr::Interrupts(t) => told(m, q, do_interrupt::interrupt(file, ram, rom, t)),
         Instr::Blocks {
             primitive,
             word,
@@ -97,18 +100,18 @@ pub fn perform(
                 repeat,
                 start,
             );
-            through(r)
+            through(m, r)
         }
         Instr::Ports(t) => {
             let r = do_port::access(file, ram, rom, tape, log, q, t);
-            through(r)
+            through(m, r)
         }
         Instr::Controls(t) => {
-            let h = do_control::control(file, t);
+            let h = do_control::control(file, m, t);
             Performed {
                 number: 0,
                 trapped: false,
-                halts: h,
+                marks: h,
                 progress: q,
                 bus: Bus { cycles: 0 },
             }

@@ -107,7 +107,7 @@ block-read {q = q} k w src z r h =
 
 -- and the step does it
 pub block-turns : {l : List ℕ} {q : Prefixes} (u : ℕ → Choice) (k : Primitive) (b : Bool) (w : World) → Prefixing l unprefixed q → length l ≤ 3
-    → Begins (l ++ (blockCode k b ∷ [])) (source w) 0 → fits w ≡ true → sound w ≡ true → w .state .halted ≡ false
+    → Begins (l ++ (blockCode k b ∷ [])) (source w) 0 → fits w ≡ true → sound w ≡ true → w .state .marks .halted ≡ false
     → stepBy u w ≡ runBy u (stepping (Blocks k b (segOr (q .seg) inDs0) (q .repeat)) (0 + length l + 1)) (counted w)
 unfolding stepBy awake decoded
 block-turns u k b w z r h f s a = rw (f, s, a, block-read k b (source w) z r h)

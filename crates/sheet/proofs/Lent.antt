@@ -44,9 +44,9 @@ pub record Lent (w v : World) : Type 0 where
 pub record Sound (w : World) : Type 0 where
   pub whole : length (w .state .file) ≡ 14
   pub fixed : fixedOf (pswOf (w .state)) ≡ true
-  pub tape-in : w .state .tape ≤ length (w .tape)
-  pub log-in : w .state .log ≤ length (w .log)
-  pub count-in : w .state .count ≤ rule .ceiling
+  pub tape-in : w .state .progress .tape ≤ length (w .tape)
+  pub log-in : w .state .progress .log ≤ length (w .log)
+  pub count-in : w .state .progress .count ≤ rule .ceiling
 
 pub writeMem-length : (b : Bool) (r : List ℕ) (g o x : ℕ) → length (writeMem b r g o x) ≡ length r
 unfolding writeMem
@@ -82,39 +82,39 @@ written-psw f n v = go (ltb n PSW) refl
 
 -- a fact of worlds that each node keeps is kept by every tree
 pub record Kept (Q : World → Type 0) : Type 0 where
-  pub in-tape : (w : World) → Q w → w .state .tape ≤ length (w .tape)
+  pub in-tape : (w : World) → Q w → w .state .progress .tape ≤ length (w .tape)
   pub at-register : (w : World) (n v : ℕ) → Q w → Q (withState w (withFile (w .state) (written (w .state .file) n v)))
   pub at-psw : (w : World) (u : Choice) (c : Flag → Effect) → Q w → Q (withState w (withPsw (w .state) (settled u c (pswOf (w .state)))))
   pub at-store : (w : World) (b : Bool) (g o x : ℕ) → Q w → Q (withRam w (writeMem b (w .ram) g o x))
-  pub at-record : (w : World) (m : ℕ) (b : List ℕ) → w .state .tape + m ≤ length (w .tape) → w .state .log + length b ≤ length (w .log) → Q w
-      → Q (world (recorded (w .state) m (length b)) (w .ram) (w .rom) (w .tape) (writeLog (w .log) (w .state .log) b))
+  pub at-record : (w : World) (m : ℕ) (b : List ℕ) → w .state .progress .tape + m ≤ length (w .tape) → w .state .progress .log + length b ≤ length (w .log) → Q w
+      → Q (world (recorded (w .state) m (length b)) (w .ram) (w .rom) (w .tape) (writeLog (w .log) (w .state .progress .log) b))
   pub at-halt : (w : World) (b : Bool) → Q w → Q (withState w (withHalted (w .state) b))
 
 module _ (Q : World → Type 0) (k : Kept Q) where
-  record-kept : (w : World) (v m : ℕ) (b : List ℕ) → w .state .tape + m ≤ length (w .tape) → Q w → LeavesAccess Q (recording w v m b)
+  record-kept : (w : World) (v m : ℕ) (b : List ℕ) → w .state .progress .tape + m ≤ length (w .tape) → Q w → LeavesAccess Q (recording w v m b)
   unfolding recording
-  record-kept w v m b h q = go (leb (w .state .log + length b) (length (w .log))) refl
+  record-kept w v m b h q = go (leb (w .state .progress .log + length b) (length (w .log))) refl
     where
-      go : (t : Bool) → leb (w .state .log + length b) (length (w .log)) ≡ t
-          → LeavesAccess Q (pick t (through v (world (recorded (w .state) m (length b)) (w .ram) (w .rom) (w .tape) (writeLog (w .log) (w .state .log) b))) (short 6))
+      go : (t : Bool) → leb (w .state .progress .log + length b) (length (w .log)) ≡ t
+          → LeavesAccess Q (pick t (through v (world (recorded (w .state) m (length b)) (w .ram) (w .rom) (w .tape) (writeLog (w .log) (w .state .progress .log) b))) (short 6))
       go true e = leaves-port (k .at-record w m b h (leb-true _ _ e) q)
       go false e = none-port
 
   -- `at-record`, with no tape byte taken, asks for a place that lies in the tape
   inputs-kept : (b : Bool) (n : ℕ) (w : World) → Q w → LeavesAccess Q (inputs b n w)
   unfolding inputs
-  inputs-kept b n w q = go (leb (w .state .tape + bytesOf b) (length (w .tape))) refl
+  inputs-kept b n w q = go (leb (w .state .progress .tape + bytesOf b) (length (w .tape))) refl
     where
-      go : (t : Bool) → leb (w .state .tape + bytesOf b) (length (w .tape)) ≡ t
-          → LeavesAccess Q (pick t (recording w (taped b (w .tape) (w .state .tape)) (bytesOf b) (recordBytes rule (w .state .count) (keyOf false b n) (taped b (w .tape) (w .state .tape)))) (short 5))
+      go : (t : Bool) → leb (w .state .progress .tape + bytesOf b) (length (w .tape)) ≡ t
+          → LeavesAccess Q (pick t (recording w (taped b (w .tape) (w .state .progress .tape)) (bytesOf b) (recordBytes rule (w .state .progress .count) (keyOf false b n) (taped b (w .tape) (w .state .progress .tape)))) (short 5))
       go true e =
-          let v : ℕ = taped b (w .tape) (w .state .tape) in
-          record-kept w v (bytesOf b) (recordBytes rule (w .state .count) (keyOf false b n) v) (leb-true _ _ e) q
+          let v : ℕ = taped b (w .tape) (w .state .progress .tape) in
+          record-kept w v (bytesOf b) (recordBytes rule (w .state .progress .count) (keyOf false b n) v) (leb-true _ _ e) q
       go false e = none-port
 
   outputs-kept : (b : Bool) (n v : ℕ) (w : World) → Q w → LeavesAccess Q (outputs b n v w)
   unfolding outputs
-  outputs-kept b n v w q = record-kept w v 0 (recordBytes rule (w .state .count) (keyOf true b n) v) (rw add-zero (k .in-tape w q)) q
+  outputs-kept b n v w q = record-kept w v 0 (recordBytes rule (w .state .progress .count) (keyOf true b n) v) (rw add-zero (k .in-tape w q)) q
 
   ported-kept : {A : Type 0} {r : Access} (f : ℕ → World → Outcome A) → LeavesAccess Q r → ((v : ℕ) (w : World) → Q w → Leaves Q (f v w)) → Leaves Q (ported r f)
   ported-kept f none-port g = none-left
@@ -166,8 +166,8 @@ good-kept w = record {
     sound = record { whole = g .sound .whole; fixed = g .sound .fixed; tape-in = g .sound .tape-in; log-in = g .sound .log-in; count-in = g .sound .count-in };
   };
   at-record = λ v m b h r g. record {
-    lent = record { ram-long = g .lent .ram-long; rom-same = g .lent .rom-same; tape-same = g .lent .tape-same; log-long = writeLog-length (v .log) b (v .state .log) r ∙ g .lent .log-long };
-    sound = record { whole = g .sound .whole; fixed = g .sound .fixed; tape-in = h; log-in = rw (writeLog-length (v .log) b (v .state .log) r) r; count-in = lit≤ tt };
+    lent = record { ram-long = g .lent .ram-long; rom-same = g .lent .rom-same; tape-same = g .lent .tape-same; log-long = writeLog-length (v .log) b (v .state .progress .log) r ∙ g .lent .log-long };
+    sound = record { whole = g .sound .whole; fixed = g .sound .fixed; tape-in = h; log-in = rw (writeLog-length (v .log) b (v .state .progress .log) r) r; count-in = lit≤ tt };
   };
   at-halt = λ v b g. record {
     lent = lent-same (g .lent);

@@ -35,7 +35,7 @@ pub record Alike (P : ℕ → Type 0) (start : ℕ) (s : State) (m m′ : Bytes)
   pub ram-long : length (m .ram) ≡ length (m′ .ram)
   pub log-long : length (m .log) ≡ length (m′ .log)
   pub bytes : (a : ℕ) → P a → byteAt (m .ram) (m .rom) a ≡ byteAt (m′ .ram) (m′ .rom) a
-  pub logged : (i : ℕ) → start ≤ i → i < s .log → getD (m .log) i 0 ≡ getD (m′ .log) i 0
+  pub logged : (i : ℕ) → start ≤ i → i < s .progress .log → getD (m .log) i 0 ≡ getD (m′ .log) i 0
 
 -- the same refusal; or the same value, state and events, and bytes that are alike again
 pub data Same {A : Type 0} (P : ℕ → Type 0) (start : ℕ) (tape : List ℕ) : Outcome A → Outcome A → Type 0 where
@@ -117,42 +117,42 @@ module _ (P : ℕ → Type 0) (start : ℕ) (tape : List ℕ) where
   }
 
   -- another state whose log's place is the same
-  other : {s t : State} {m m′ : Bytes} → t .log ≡ s .log → Alike P start s m m′ → Alike P start t m m′
+  other : {s t : State} {m m′ : Bytes} → t .progress .log ≡ s .progress .log → Alike P start s m m′ → Alike P start t m m′
   other e l = record { ram-long = l .ram-long; log-long = l .log-long; bytes = l .bytes; logged = λ i h k. l .logged i h (rw (← e) k) }
 
   record-alike : (s : State) (m m′ : Bytes) (v k : ℕ) (b : List ℕ) → Alike P start s m m′ → SameAccess P start tape (recording (from s tape m) v k b) (recording (from s tape m′) v k b)
   unfolding recording
-  record-alike s m m′ v k b l = rw (← l .log-long) (go (leb (s .log + length b) (length (m .log))) refl)
+  record-alike s m m′ v k b l = rw (← l .log-long) (go (leb (s .progress .log + length b) (length (m .log))) refl)
     where
-      go : (t : Bool) → leb (s .log + length b) (length (m .log)) ≡ t
+      go : (t : Bool) → leb (s .progress .log + length b) (length (m .log)) ≡ t
           → SameAccess P start tape
-          (pick t (through v (world (recorded s k (length b)) (m .ram) (m .rom) tape (writeLog (m .log) (s .log) b))) (short 6))
-          (pick t (through v (world (recorded s k (length b)) (m′ .ram) (m′ .rom) tape (writeLog (m′ .log) (s .log) b))) (short 6))
+          (pick t (through v (world (recorded s k (length b)) (m .ram) (m .rom) tape (writeLog (m .log) (s .progress .log) b))) (short 6))
+          (pick t (through v (world (recorded s k (length b)) (m′ .ram) (m′ .rom) tape (writeLog (m′ .log) (s .progress .log) b))) (short 6))
       go true e =
           let r = leb-true _ _ e in
           let n = l .log-long in
           same-through (record {
             ram-long = l .ram-long;
-            log-long = writeLog-length (m .log) b (s .log) r ∙ n ∙ sym (writeLog-length (m′ .log) b (s .log) (omega arith));
+            log-long = writeLog-length (m .log) b (s .progress .log) r ∙ n ∙ sym (writeLog-length (m′ .log) b (s .progress .log) (omega arith));
             bytes = l .bytes;
-            logged = λ i h q. log-alike (m .log) (m′ .log) b (s .log) i (omega arith) (omega arith) (λ z. l .logged i h z) q;
+            logged = λ i h q. log-alike (m .log) (m′ .log) b (s .progress .log) i (omega arith) (omega arith) (λ z. l .logged i h z) q;
           })
       go false e = same-short
 
   inputs-alike : (b : Bool) (n : ℕ) (s : State) (m m′ : Bytes) → Alike P start s m m′ → SameAccess P start tape (inputs b n (from s tape m)) (inputs b n (from s tape m′))
   unfolding inputs
-  inputs-alike b n s m m′ l = go (leb (s .tape + bytesOf b) (length tape))
+  inputs-alike b n s m m′ l = go (leb (s .progress .tape + bytesOf b) (length tape))
     where
       go : (t : Bool)
           → SameAccess P start tape
-          (pick t (recording (from s tape m) (taped b tape (s .tape)) (bytesOf b) (recordBytes rule (s .count) (keyOf false b n) (taped b tape (s .tape)))) (short 5))
-          (pick t (recording (from s tape m′) (taped b tape (s .tape)) (bytesOf b) (recordBytes rule (s .count) (keyOf false b n) (taped b tape (s .tape)))) (short 5))
-      go true = record-alike s m m′ (taped b tape (s .tape)) (bytesOf b) (recordBytes rule (s .count) (keyOf false b n) (taped b tape (s .tape))) l
+          (pick t (recording (from s tape m) (taped b tape (s .progress .tape)) (bytesOf b) (recordBytes rule (s .progress .count) (keyOf false b n) (taped b tape (s .progress .tape)))) (short 5))
+          (pick t (recording (from s tape m′) (taped b tape (s .progress .tape)) (bytesOf b) (recordBytes rule (s .progress .count) (keyOf false b n) (taped b tape (s .progress .tape)))) (short 5))
+      go true = record-alike s m m′ (taped b tape (s .progress .tape)) (bytesOf b) (recordBytes rule (s .progress .count) (keyOf false b n) (taped b tape (s .progress .tape))) l
       go false = same-short
 
   outputs-alike : (b : Bool) (n v : ℕ) (s : State) (m m′ : Bytes) → Alike P start s m m′ → SameAccess P start tape (outputs b n v (from s tape m)) (outputs b n v (from s tape m′))
   unfolding outputs
-  outputs-alike b n v s m m′ l = record-alike s m m′ v 0 (recordBytes rule (s .count) (keyOf true b n) v) l
+  outputs-alike b n v s m m′ l = record-alike s m m′ v 0 (recordBytes rule (s .progress .count) (keyOf true b n) v) l
 
   same-then : {A : Type 0} (e : Event) {o q : Outcome A} → Same P start tape o q → Same P start tape (then e o) (then e q)
   same-then e same-refused = same-refused
@@ -226,23 +226,23 @@ module _ (a x : ℕ) where
 
   record-holds : (w : World) (v k : ℕ) (b : List ℕ) → HoldsAt a x w → LeavesAccess (HoldsAt a x) (recording w v k b)
   unfolding recording
-  record-holds w v k b h = go (leb (w .state .log + length b) (length (w .log)))
+  record-holds w v k b h = go (leb (w .state .progress .log + length b) (length (w .log)))
     where
-      go : (t : Bool) → LeavesAccess (HoldsAt a x) (pick t (through v (world (recorded (w .state) k (length b)) (w .ram) (w .rom) (w .tape) (writeLog (w .log) (w .state .log) b))) (short 6))
+      go : (t : Bool) → LeavesAccess (HoldsAt a x) (pick t (through v (world (recorded (w .state) k (length b)) (w .ram) (w .rom) (w .tape) (writeLog (w .log) (w .state .progress .log) b))) (short 6))
       go true = leaves-port h
       go false = none-port
 
   inputs-hold : (b : Bool) (n : ℕ) (w : World) → HoldsAt a x w → LeavesAccess (HoldsAt a x) (inputs b n w)
   unfolding inputs
-  inputs-hold b n w h = go (leb (w .state .tape + bytesOf b) (length (w .tape)))
+  inputs-hold b n w h = go (leb (w .state .progress .tape + bytesOf b) (length (w .tape)))
     where
-      go : (t : Bool) → LeavesAccess (HoldsAt a x) (pick t (recording w (taped b (w .tape) (w .state .tape)) (bytesOf b) (recordBytes rule (w .state .count) (keyOf false b n) (taped b (w .tape) (w .state .tape)))) (short 5))
-      go true = record-holds w (taped b (w .tape) (w .state .tape)) (bytesOf b) (recordBytes rule (w .state .count) (keyOf false b n) (taped b (w .tape) (w .state .tape))) h
+      go : (t : Bool) → LeavesAccess (HoldsAt a x) (pick t (recording w (taped b (w .tape) (w .state .progress .tape)) (bytesOf b) (recordBytes rule (w .state .progress .count) (keyOf false b n) (taped b (w .tape) (w .state .progress .tape)))) (short 5))
+      go true = record-holds w (taped b (w .tape) (w .state .progress .tape)) (bytesOf b) (recordBytes rule (w .state .progress .count) (keyOf false b n) (taped b (w .tape) (w .state .progress .tape))) h
       go false = none-port
 
   outputs-hold : (b : Bool) (n v : ℕ) (w : World) → HoldsAt a x w → LeavesAccess (HoldsAt a x) (outputs b n v w)
   unfolding outputs
-  outputs-hold b n v w h = record-holds w v 0 (recordBytes rule (w .state .count) (keyOf true b n) v) h
+  outputs-hold b n v w h = record-holds w v 0 (recordBytes rule (w .state .progress .count) (keyOf true b n) v) h
 
   ported-hold : {A : Type 0} (f : ℕ → World → Outcome A) {r : Access} → LeavesAccess (HoldsAt a x) r → Spares a (happened (ported r f))
       → ((v : ℕ) (w : World) → HoldsAt a x w → Spares a (happened (f v w)) → Leaves (HoldsAt a x) (f v w)) → Leaves (HoldsAt a x) (ported r f)

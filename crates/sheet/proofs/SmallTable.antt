@@ -33,7 +33,7 @@ use Rattle.sheet.specs.Contract.{report}
 
 -- AW CW DW BW SP BP IX IY DS1 PS SS DS0 PC PSW, a count of steps, and RAM; no ROM, tape or log
 abbrev machine : List ℕ → ℕ → List ℕ → World
-machine file count ram = world (record { file = file; halted = false; tape = 0; log = 0; count = count }) ram [] [] []
+machine file count ram = world (record { file = file; marks = record { halted = false }; progress = record { tape = 0; log = 0; count = count } }) ram [] [] []
 
 -- a step is accepted and leaves this, with so many bus cycles
 abbrev Leaves : World → World → ℕ → Type 0

@@ -30,15 +30,15 @@ pub record Stepped (u : ℕ → Choice) (w v : World) (t : List Event) : Type 0 
   pub size : ℕ
   pub fit : fits w ≡ true
   pub good : sound w ≡ true
-  pub up : w .state .halted ≡ false
+  pub up : w .state .marks .halted ≡ false
   pub read : scan instruction (source w) 0 ≡ known instr size
   pub ran : runBy u (stepping instr size) (counted w) ≡ done tt v t
 
 pub begins : (u : ℕ → Choice) (w v : World) (t : List Event) → stepBy u w ≡ done tt v t → Stepped u w v t
 unfolding stepBy awake decoded
-begins u w v t e = go (fits w) (sound w) (w .state .halted) (scan instruction (source w) 0) refl refl refl refl e
+begins u w v t e = go (fits w) (sound w) (w .state .marks .halted) (scan instruction (source w) 0) refl refl refl refl e
   where
-    go : (f s h : Bool) (r : Read Instr) → fits w ≡ f → sound w ≡ s → w .state .halted ≡ h → scan instruction (source w) 0 ≡ r
+    go : (f s h : Bool) (r : Read Instr) → fits w ≡ f → sound w ≡ s → w .state .marks .halted ≡ h → scan instruction (source w) 0 ≡ r
         → pick f (pick s (pick h (refusal 8) (decoded u r w)) (refusal 2)) (refusal 1) ≡ done tt v t → Stepped u w v t
     go true true false (known i n) a b c d q = record { instr = i; size = n; fit = a; good = b; up = c; read = d; ran = q }
     go true true false (unknown k n) a b c d q = absurd (no-done q)
@@ -71,13 +71,13 @@ pub sound-is : (w : World) → length (w .state .file) ≡ 14 → sound w ≡ tr
 unfolding sound
 sound-is w n e =
     let (a, e₁) = and-eq-true-iff (fixedOf (pswOf (w .state))) _ .0 e in
-    let (b, e₂) = and-eq-true-iff (leb (w .state .tape) (length (w .tape))) _ .0 e₁ in
-    let (c, d) = and-eq-true-iff (leb (w .state .log) (length (w .log))) _ .0 e₂ in
+    let (b, e₂) = and-eq-true-iff (leb (w .state .progress .tape) (length (w .tape))) _ .0 e₁ in
+    let (c, d) = and-eq-true-iff (leb (w .state .progress .log) (length (w .log))) _ .0 e₂ in
     record { whole = n; fixed = a; tape-in = leb-true _ _ b; log-in = leb-true _ _ c; count-in = leb-true _ _ d }
 
 pub counted-sound : (w : World) → Sound w → Sound (counted w)
 unfolding counted
-counted-sound w s = record { whole = s .whole; fixed = s .fixed; tape-in = s .tape-in; log-in = s .log-in; count-in = min-le-right (w .state .count + 1) (rule .ceiling) }
+counted-sound w s = record { whole = s .whole; fixed = s .fixed; tape-in = s .tape-in; log-in = s .log-in; count-in = min-le-right (w .state .progress .count + 1) (rule .ceiling) }
 
 good-of : {w v : World} {t : List Event} → Leaves {A = Unit {0}} (Good w) (done tt v t) → Good w v
 good-of (leaves g) = g

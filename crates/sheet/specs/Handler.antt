@@ -23,8 +23,8 @@ pub data Access : Type 0 where
 -- the record b of the value v, with m tape bytes taken: 6 where the log has less room
 unfoldable pub recording : World → ℕ → ℕ → List ℕ → Access
 recording w v m b =
-    pick (leb (w .state .log + length b) (length (w .log)))
-    (through v (world (recorded (w .state) m (length b)) (w .ram) (w .rom) (w .tape) (writeLog (w .log) (w .state .log) b)))
+    pick (leb (w .state .progress .log + length b) (length (w .log)))
+    (through v (world (recorded (w .state) m (length b)) (w .ram) (w .rom) (w .tape) (writeLog (w .log) (w .state .progress .log) b)))
     (short 6)
 
 -- the next number on the tape, low byte first
@@ -34,12 +34,12 @@ taped b tape i = pick b (getD tape i 0 + 256 * getD tape (i + 1) 0) (getD tape i
 -- 5 where fewer tape bytes remain
 unfoldable pub inputs : Bool → ℕ → World → Access
 inputs b n w =
-    pick (leb (w .state .tape + bytesOf b) (length (w .tape)))
-    (recording w (taped b (w .tape) (w .state .tape)) (bytesOf b) (recordBytes rule (w .state .count) (keyOf false b n) (taped b (w .tape) (w .state .tape))))
+    pick (leb (w .state .progress .tape + bytesOf b) (length (w .tape)))
+    (recording w (taped b (w .tape) (w .state .progress .tape)) (bytesOf b) (recordBytes rule (w .state .progress .count) (keyOf false b n) (taped b (w .tape) (w .state .progress .tape))))
     (short 5)
 
 unfoldable pub outputs : Bool → ℕ → ℕ → World → Access
-outputs b n v w = recording w v 0 (recordBytes rule (w .state .count) (keyOf true b n) v)
+outputs b n v w = recording w v 0 (recordBytes rule (w .state .progress .count) (keyOf true b n) v)
 
 -- ---- the handler
 

@@ -11,7 +11,7 @@ use Rattle.sheet.specs.Psw.{BRK, IE, Choice, flagOf, fixedOf}
 use Rattle.sheet.specs.Registers.{PS, PC, PSW, fileOf}
 use Rattle.sheet.specs.Memory.{physical, byteAt}
 use Rattle.sheet.specs.Log.{rule, risen}
-use Rattle.sheet.specs.World.{World, withState, pswOf, withCount}
+use Rattle.sheet.specs.World.{World, withState, stateOf, progressOf, pswOf, withCount}
 use Rattle.sheet.specs.Act.{Act, pure, _>>=_, _>>_, flag, halted}
 use Rattle.sheet.specs.Handler.{Outcome, refused, runBy, kept}
 use Rattle.sheet.specs.Contract.{seen, Report, reportOf}
@@ -28,7 +28,7 @@ fits w = leb (length (w .ram) + length (w .rom)) 1048576
 
 -- places and count
 abbrev pub placesGood : State → List ℕ → List ℕ → Bool
-placesGood s tape log = leb (s .tape) (length tape) && (leb (s .log) (length log) && leb (s .count) (rule .ceiling))
+placesGood s tape log = leb (s .progress .tape) (length tape) && (leb (s .progress .log) (length log) && leb (s .progress .count) (rule .ceiling))
 
 -- number 2 is given where this fails: fixed bits of PSW, places, count
 unfoldable pub sound : World → Bool
@@ -72,14 +72,14 @@ stepping i n = do
 
 -- the count rises with the step, so that a record finds its gap there
 unfoldable pub counted : World → World
-counted w = withState w (withCount (w .state) (risen rule (w .state .count)))
+counted w = withState w (withCount (w .state) (risen rule (w .state .progress .count)))
 
 unfoldable pub decoded : (ℕ → Choice) → Read Instr → World → Outcome Unit
 decoded u (known i n) w = runBy u (stepping i n) (counted w)
 decoded u (unknown r n) w = refusal r
 
 unfoldable pub awake : (ℕ → Choice) → World → Outcome Unit
-awake u w = pick (w .state .halted) (refusal 8) (decoded u (scan instruction (source w) 0) w)
+awake u w = pick (w .state .marks .halted) (refusal 8) (decoded u (scan instruction (source w) 0) w)
 
 unfoldable pub stepBy : (ℕ → Choice) → World → Outcome Unit
 stepBy u w = checked w refusal (awake u w)
@@ -100,7 +100,7 @@ interrupt v maskable w = interruptBy kept v maskable w
 -- ---- reset
 
 unfoldable pub reset : State
-reset = record { file = set (set (replicate 14 0) PS 0xffff) PSW 0xf002; halted = false; tape = 0; log = 0; count = 0 }
+reset = stateOf (set (set (replicate 14 0) PS 0xffff) PSW 0xf002) (record { halted = false }) (progressOf 0 0 0)
 
 -- ---- what a call reports
 

@@ -4,6 +4,7 @@ use mathlib.Core.Bool.{Bool}
 use mathlib.Core.List.{List}
 use lib.ListN.{getD, set}
 use Rattle.sheet.specs.declared.State.{State}
+use Rattle.sheet.specs.declared.Marks.{Marks}
 use Rattle.sheet.specs.declared.Progress.{Progress}
 use Rattle.sheet.specs.Registers.{PSW}
 
@@ -28,22 +29,35 @@ withRam w ram = world (w .state) ram (w .rom) (w .tape) (w .log)
 abbrev pub pswOf : State → ℕ
 pswOf s = getD (s .file) PSW 0
 
+-- the state of these parts: the only place that writes one down
+abbrev pub stateOf : List ℕ → Marks → Progress → State
+stateOf f m q = record { file = f; marks = m; progress = q }
+
 abbrev pub withFile : State → List ℕ → State
-withFile s f = record { file = f; halted = s .halted; tape = s .tape; log = s .log; count = s .count }
+withFile s f = stateOf f (s .marks) (s .progress)
 
 abbrev pub withPsw : State → ℕ → State
 withPsw s x = withFile s (set (s .file) PSW x)
 
+abbrev pub withMarks : State → Marks → State
+withMarks s m = stateOf (s .file) m (s .progress)
+
+abbrev pub withProgress : State → Progress → State
+withProgress s q = stateOf (s .file) (s .marks) q
+
+-- the halted mark, set or not
+abbrev pub markHalted : Marks → Bool → Marks
+markHalted m b = record { halted = b }
+
 abbrev pub withHalted : State → Bool → State
-withHalted s b = record { file = s .file; halted = b; tape = s .tape; log = s .log; count = s .count }
+withHalted s b = withMarks s (markHalted (s .marks) b)
+
+abbrev pub progressOf : ℕ → ℕ → ℕ → Progress
+progressOf tape log count = record { tape = tape; log = log; count = count }
 
 abbrev pub withCount : State → ℕ → State
-withCount s n = record { file = s .file; halted = s .halted; tape = s .tape; log = s .log; count = n }
+withCount s n = withProgress s (progressOf (s .progress .tape) (s .progress .log) n)
 
 -- a record of n bytes was written and m tape bytes were taken: the places move, and the count starts anew
 abbrev pub recorded : State → ℕ → ℕ → State
-recorded s m n = record { file = s .file; halted = s .halted; tape = s .tape + m; log = s .log + n; count = 0 }
-
--- the state of these parts
-abbrev pub stateOf : List ℕ → Bool → Progress → State
-stateOf f h q = record { file = f; halted = h; tape = q .tape; log = q .log; count = q .count }
+recorded s m n = withProgress s (progressOf (s .progress .tape + m) (s .progress .log + n) 0)

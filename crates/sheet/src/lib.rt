@@ -5,18 +5,20 @@
 pub struct State {
     // AW CW DW BW SP BP IX IY DS1 PS SS DS0 PC PSW
     pub file: [u16; 14],
+    pub marks: Marks,
+    pub progress: Progress,
+}
+
+pub struct Marks {
     pub halted: bool,
-    // the places in the port tape and in the log
-    pub tape: usize,
-    pub log: usize,
-    // steps since the last record
-    pub count: u32,
 }
 
 // What of a state the ports move.
 pub struct Progress {
+    // the places in the port tape and in the log
     pub tape: usize,
     pub log: usize,
+    // steps since the last record
     pub count: u32,
 }
 

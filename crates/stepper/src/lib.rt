@@ -4,6 +4,7 @@ use registers::PC;
 use registers::PSW;
 use sheet::Bus;
 use sheet::Instr;
+use sheet::Marks;
 use sheet::Progress;
 ghost use mathlib.Core.Path.{_≡_};
 ghost use Prim.Native.Nat.{_≤_};
@@ -21,23 +22,23 @@ fn count_on(count: u32) -> u32
 }
 
 pub struct Finished {
-    pub halted: bool,
+    pub marks: Marks,
     pub bus: Bus,
 }
 
 // The trap to vector 1, which ends a halt.
-fn finish(file: &mut [u16; 14], ram: &mut [u8], rom: &[u8], traced: bool, halts: bool) -> Finished
-    ensures { λ r. ⌜ Finishes traced (now (file .entry)) (now (ram .entry)) (now (rom .entry)) halts (now (file .exit)) (now (ram .exit)) (r .halted) (r .bus) ⌝ }
+fn finish(file: &mut [u16; 14], ram: &mut [u8], rom: &[u8], traced: bool, marks: Marks) -> Finished
+    ensures { λ r. ⌜ Finishes traced (now (file .entry)) (now (ram .entry)) (now (rom .entry)) marks (now (file .exit)) (now (ram .exit)) (r .marks) (r .bus) ⌝ }
 {
     if traced {
         let b = traps::trap(file, ram, rom, 1);
         return Finished {
-            halted: false,
+            marks: Marks { halted: false },
             bus: b,
         };
     }
     Finished {
-        halted: halts,
+        marks,
         bus: Bus { cycles: 0 },
     }
 }
@@ -53,10 +54,10 @@ fn begin(q: Progress) -> Progress
     }
 }
 
-// What came of an instruction: its number, and where it is not refused the halted mark, the places and the bus.
+// What came of an instruction: its number, and where it is not refused the marks, the places and the bus.
 pub struct Stepped {
     pub number: u8,
-    pub halted: bool,
+    pub marks: Marks,
     pub progress: Progress,
     pub bus: Bus,
 }
@@ -64,13 +65,15 @@ pub struct Stepped {
 // What follows an instruction that was not refused.
 fn settle(file: &mut [u16; 14], ram: &mut [u8], rom: &[u8], traced: bool, p: Performed) -> Stepped
     requires { ⌜ p .bus .cycles ≤ 1020 ⌝ }
-    ensures { λ r. ⌜ Settles (traced && not (p .trapped)) (p .halts) (p .progress) (p .bus) (now (file .entry)) (now (ram .entry)) (now (rom .entry)) (r .number) (r .halted) (r .progress) (now (file .exit)) (now (ram .exit)) (r .bus) ⌝ }
+    ensures { λ r. ⌜ Settles (traced && not (p .trapped)) (p .marks) (p .progress) (p .bus) (now (file .entry)) (now (ram .entry)) (now (rom .entry)) (r .number) (r .marks) (r .progress) (now (file .exit)) (now (ram .exit)) (r .bus) ⌝ }
 {
     let to = p.progress;
-    let last = finish(file, ram, rom, traced & !p.trapped, p.halts);
+    let m = p.marks;
+    let last = finish(file, ram, rom, traced & !p.trapped, m);
+    let marks = last.marks;
     Stepped {
         number: 0,
-        halted: last.halted,
+        marks,
         progress: to,
         bus: Bus {
             cycles: p.bus.cycles + last.bus.cycles,
@@ -85,41 +88,43 @@ fn launch(
     rom: &[u8],
     tape: &[u8],
     log: &mut [u8],
+    m: Marks,
     q: Progress,
     i: Instr,
     size: u16,
 ) -> Performed
-    ensures { λ r. ⌜ Performs (execute i size) (now (file .entry)) (now (ram .entry)) (now (rom .entry)) (now (tape .entry)) (now (log .entry)) q (r .number) (r .trapped) (r .halts) (now (file .exit)) (now (ram .exit)) (now (log .exit)) (r .progress) (r .bus) ⌝ }
+    ensures { λ r. ⌜ Performs (execute i size) (now (file .entry)) (now (ram .entry)) (now (rom .entry)) (now (tape .entry)) (now (log .entry)) m q (r .number) (r .trapped) (r .marks) (now (file .exit)) (now (ram .exit)) (now (log .exit)) (r .progress) (r .bus) ⌝ }
 {
     let start = file[PC];
     file[PC] = word::plus16(start, size);
-    let p = execute::perform(file, ram, rom, tape, log, q, i, start);
+    let p = execute::perform(file, ram, rom, tape, log, m, q, i, start);
     if p.number != 0 {
         file[PC] = start;
     }
     p
 }
 
-// An instruction of so many bytes, of a machine that is not halted; a refusal leaves everything as it was.
+// An instruction of so many bytes; a refusal leaves everything as it was.
 pub fn proceed(
     file: &mut [u16; 14],
     ram: &mut [u8],
     rom: &[u8],
     tape: &[u8],
     log: &mut [u8],
+    m: Marks,
     q: Progress,
     i: Instr,
     size: u16,
 ) -> Stepped
-    ensures { λ r. ⌜ Proceeds i size (now (file .entry)) (now (ram .entry)) (now (rom .entry)) (now (tape .entry)) (now (log .entry)) q (r .number) (r .halted) (r .progress) (now (file .exit)) (now (ram .exit)) (now (log .exit)) (r .bus) ⌝ }
+    ensures { λ r. ⌜ Proceeds i size (now (file .entry)) (now (ram .entry)) (now (rom .entry)) (now (tape .entry)) (now (log .entry)) m q (r .number) (r .marks) (r .progress) (now (file .exit)) (now (ram .exit)) (now (log .exit)) (r .bus) ⌝ }
 {
     let traced = flags::brk(file[PSW]);
     let begun = begin(q);
-    let p = launch(file, ram, rom, tape, log, begun, i, size);
+    let p = launch(file, ram, rom, tape, log, m, begun, i, size);
     if p.number != 0 {
         return Stepped {
             number: p.number,
-            halted: false,
+            marks: m,
             progress: q,
             bus: Bus { cycles: 0 },
         };

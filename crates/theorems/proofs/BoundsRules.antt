@@ -140,11 +140,11 @@ short-six = fails (lit≤ tt) (lit≤ tt)
 
 recording-passes : (w : World) (v m : ℕ) (b : List ℕ) → Passes (recording w v m b)
 unfolding recording
-recording-passes w v m b = picked Passes (leb (w .state .log + length b) (length (w .log))) passes short-six
+recording-passes w v m b = picked Passes (leb (w .state .progress .log + length b) (length (w .log))) passes short-six
 
 inputs-passes : (b : Bool) (n : ℕ) (w : World) → Passes (inputs b n w)
 unfolding inputs
-inputs-passes b n w = picked Passes (leb (w .state .tape + bytesOf b) (length (w .tape))) (recording-passes _ _ _ _) short-five
+inputs-passes b n w = picked Passes (leb (w .state .progress .tape + bytesOf b) (length (w .tape))) (recording-passes _ _ _ _) short-five
 
 outputs-passes : (b : Bool) (n v : ℕ) (w : World) → Passes (outputs b n v w)
 unfolding outputs

@@ -95,7 +95,7 @@ reads-fine w h g = scanned instruction of-instruction (source w) (λ j. byte-top
 -- ---- the calls
 
 -- a step that is to be made does the instruction that it finds
-pub step-is : (w : World) (i : Instr) (n : ℕ) → (fits w ≡ true) × (sound w ≡ true) → w .state .halted ≡ false → scan instruction (source w) 0 ≡ known i n → step w ≡ run (stepping i n) (counted w)
+pub step-is : (w : World) (i : Instr) (n : ℕ) → (fits w ≡ true) × (sound w ≡ true) → w .state .marks .halted ≡ false → scan instruction (source w) 0 ≡ known i n → step w ≡ run (stepping i n) (counted w)
 unfolding step run
 step-is w i n good up there = step-on w good ∙ awake-known w i n up there
 
@@ -125,7 +125,7 @@ checked-comes {n} {l} w o h =
 -- every step, of any machine over memory of bytes
 pub step-comes : (w : World) → Bytes (w .ram) → Bytes (w .rom) → Comes stepTop stepRefusals (seen (step w))
 unfolding step stepBy awake decoded exec run
-step-comes w h g = checked-comes w (awake kept w) (go (w .state .halted) (scan instruction (source w) 0) (reads-fine w h g))
+step-comes w h g = checked-comes w (awake kept w) (go (w .state .marks .halted) (scan instruction (source w) 0) (reads-fine w h g))
   where
     go : (t : Bool) (r : Read Instr) → Scanned Fine r → Comes stepTop stepRefusals (seen (pick t (refusal 8) (decoded kept r w)))
     go false (known i n) (read q) = within-step _ (of-stepping i q n .at (counted w))

@@ -47,14 +47,14 @@ not-zero n (refuses e) h = let z : _≡_ {A = ℕ} 0 (suc n) = cc in omega arith
 pub record Ready (w : World) : Type 0 where
   pub fit : fits w ≡ true
   pub good : sound w ≡ true
-  pub up : w .state .halted ≡ false
+  pub up : w .state .marks .halted ≡ false
 
 -- numbers 1, 2 and 8 were not due
 pub ready : {O : Type 0} {of : List Event → O} {w v : World} {o : O} → Tells of w (step w) 0 v o → Ready w
 unfolding step stepBy awake
-ready {w = w} h = go (fits w) (sound w) (w .state .halted) refl refl refl
+ready {w = w} h = go (fits w) (sound w) (w .state .marks .halted) refl refl refl
   where
-    go : (f s u : Bool) → fits w ≡ f → sound w ≡ s → w .state .halted ≡ u → Ready w
+    go : (f s u : Bool) → fits w ≡ f → sound w ≡ s → w .state .marks .halted ≡ u → Ready w
     go true true false a b c = record { fit = a; good = b; up = c }
     go true true true a b c = absurd (not-zero 7 h (rw (a, b, c)))
     go true false u a b c = absurd (not-zero 1 h (rw (a, b)))
@@ -160,7 +160,7 @@ module _ (E : Engine) (F : Faithful E) (i : Block) (w : World) (t : Taken E i w)
     showed : l ≡ shown E i w j
     lent : Lent w v
     sound : Sound v
-    awake : v .state .halted ≡ false
+    awake : v .state .marks .halted ≡ false
 
   at-first : Ready w
   at-first = let (v, o, h) = t .accepted in ready (F .step-tells h)

@@ -57,7 +57,7 @@ pub record Turned (k : Primitive) (b : Bool) (seg : ℕ) (q : Repeat) (n : ℕ) 
   pub file-is : v .state .file ≡ file
   pub ram-is : v .ram ≡ ram
   pub rom-is : v .rom ≡ w .rom
-  pub halted-is : v .state .halted ≡ w .state .halted
+  pub halted-is : v .state .marks .halted ≡ w .state .marks .halted
   pub shows : accesses t ≡ accesses events
 
 module _ (k : Primitive) (b : Bool) (seg : ℕ) (q : Repeat) (n c p : ℕ) (w : World) (f : List ℕ) (e : length f ≡ 14) (here : w .state .file ≡ placed c p f) (clear : flagOf (getD f PSW 0) BRK ≡ false) where
@@ -72,7 +72,7 @@ module _ (k : Primitive) (b : Bool) (seg : ℕ) (q : Repeat) (n c p : ℕ) (w : 
 
   -- the step, by what the instruction itself does once PC is past it
   turned-by : {v : World} {t : List Event} {file ram : List ℕ} {events : List Event} → Runs Unit (block k b seg q p) (withWords w (placed c (add16 p n) f)) tt v t
-      → v .state .file ≡ file → v .ram ≡ ram → v .rom ≡ w .rom → v .state .halted ≡ w .state .halted → accesses t ≡ accesses events → Turned k b seg q n w file ram events
+      → v .state .file ≡ file → v .ram ≡ ram → v .rom ≡ w .rom → v .state .marks .halted ≡ w .state .marks .halted → accesses t ≡ accesses events → Turned k b seg q n w file ram events
   turned-by {v} {t} h words bytes rom up shown =
       let ran : Runs Unit (block k b seg q (getD (w .state .file) PC 0)) (moved n w) tt v t = rw (moved-is, start-is) h in
       record {

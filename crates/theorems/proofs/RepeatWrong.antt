@@ -90,7 +90,7 @@ not-idles = early _ _ refl refl
 -- It loses its place in a service: where three steps are counted it takes the instruction for ended, whatever CW is. Left alone,
 -- the move of three bytes is done right; with a service after its first step it is not.
 pub loses-its-place : World → Outcome Unit
-loses-its-place w = pick (eqb (w .state .count) 3) (done tt (withState w (withFile (w .state) (placed 0 67 (w .state .file)))) []) (step w)
+loses-its-place w = pick (eqb (w .state .progress .count) 3) (done tt (withState w (withFile (w .state) (placed 0 67 (w .state .file)))) []) (step w)
 
 lost-second : loses-its-place back ≡ done tt (withState back (withFile (back .state) (placed 0 67 (back .state .file)))) []
 unfolding loses-its-place

@@ -48,7 +48,7 @@ pub data Comes (n : ℕ) (refusals : List ℕ) : Seen Unit → Type 0 where
 pub record Finds (w : World) (i : Instr) (n : ℕ) : Type 0 where
   pub fit : fits w ≡ true
   pub good : sound w ≡ true
-  pub up : w .state .halted ≡ false
+  pub up : w .state .marks .halted ≡ false
   pub there : scan instruction (source w) 0 ≡ known i n
 
 -- fourteen registers, SP and BP odd

@@ -181,7 +181,7 @@ module _ (E : Engine) where
     pub in-range : vector < 256
     pub taken : E .Interrupt vector maskable w 0 entry shown
     pub served : Calls entry v
-    pub up-again : v .state .halted ≡ false
+    pub up-again : v .state .marks .halted ≡ false
 
   -- what may fall before an own step: nothing, or a service that restores
   pub data Gap (K : ℕ → Type 0) (w v : World) : Type 0 where
@@ -221,7 +221,7 @@ module _ (E : Engine) where
     pub registers : v .state .file ≡ placed (reg w CW - j) p (singles i w j .state .file)
     pub kept : (a : ℕ) → K a → byteAt (v .ram) (v .rom) a ≡ byteAt (singles i w j .ram) (singles i w j .rom) a
     pub accesses : l ≡ shown i w j
-    pub awake : v .state .halted ≡ false
+    pub awake : v .state .marks .halted ≡ false
 
   -- What demand 3 claims, with k elements done and services that put back K.
   pub record Claimed (i : Block) (w : World) (k : ℕ) (K : ℕ → Type 0) : Type 0 where

@@ -23,9 +23,9 @@ abbrev pub lendable : World → Bool
 lendable w =
     eqb (length (w .state .file)) 14
     && (every 65535 (w .state .file)
-    && (leb (w .state .count) 4294967295
-    && (leb (w .state .tape) 18446744073709551615
-    && (leb (w .state .log) 18446744073709551615 && (every 255 (w .ram) && (every 255 (w .rom) && (every 255 (w .tape) && every 255 (w .log))))))))
+    && (leb (w .state .progress .count) 4294967295
+    && (leb (w .state .progress .tape) 18446744073709551615
+    && (leb (w .state .progress .log) 18446744073709551615 && (every 255 (w .ram) && (every 255 (w .rom) && (every 255 (w .tape) && every 255 (w .log))))))))
 
 -- an engine does what step promises, what an interrupt call promises, what run promises
 abbrev pub MeetsStep : (World → Report) → Type 0
@@ -68,7 +68,7 @@ cyclesOf (runReported n w k b) = b .cycles
 -- ---- three machines: SUB4S, ADJ4A (document 01's second and first example), and one that is halted
 
 abbrev pub machine : List ℕ → Bool → ℕ → List ℕ → World
-machine file halted count ram = world (record { file = file; halted = halted; tape = 0; log = 0; count = count }) ram [] [] []
+machine file halted count ram = world (record { file = file; marks = record { halted = halted }; progress = record { tape = 0; log = 0; count = count } }) ram [] [] []
 
 abbrev pub subtracting : World
 subtracting =

@@ -30,7 +30,7 @@ maskableOf call = eqb (call % 2) 1
 
 -- a call is made when its step is reached, or when the machine is halted, so that no step will be; at the limit none is
 unfoldable pub isCalled : Session → Next → ℕ → Bool
-isCalled s n limit = n .waits && (ltb (s .steps) limit && (leb (n .due) (s .steps) || s .state .halted))
+isCalled s n limit = n .waits && (ltb (s .steps) limit && (leb (n .due) (s .steps) || s .state .marks .halted))
 
 -- ---- a run goes to the limit or to the next call, in pieces of at most 65,535 steps
 

@@ -95,7 +95,7 @@ pub fn is_called(s: Session, n: Next, limit: u64) -> bool
     ensures { λ r. ⌜ r ≡ isCalled s n limit ⌝ }
 {
     let state = s.state;
-    n.waits & ((s.steps < limit) & ((n.due <= s.steps) | state.halted))
+    n.waits & ((s.steps < limit) & ((n.due <= s.steps) | state.marks.halted))
 }
 
 // How many calls an answer refuses.
