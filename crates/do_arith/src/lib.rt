@@ -11,7 +11,7 @@ ghost use mathlib.Core.Path.{_≡_};
 ghost use Prim.Native.Nat.{ℕ};
 ghost use Rattle.sheet.specs.Arithmetic as tree;
 ghost use Rattle.sheet.specs.Execute.{calculate};
-ghost use Rattle.sheet.specs.Contract.{OnMemory};
+ghost use Rattle.tally.specs.Lent.{Does};
 
 // CMP drops the difference.
 fn conclude(
@@ -23,7 +23,7 @@ fn conclude(
     spot: Spot,
     v: u16,
 ) -> Bus
-    ensures { λ r. ⌜ OnMemory Unit (tree.conclude op word spot v) (now (file .entry)) (now (ram .entry)) (now (rom .entry)) tt (now (file .exit)) (now (ram .exit)) r 2 ⌝ }
+    ensures { λ r. ⌜ Does (tree.conclude op word spot v) file ram rom r 2 ⌝ }
 {
     match op {
         Operation::Add => operand::deposit(word, file, ram, rom, spot, v),
@@ -33,7 +33,7 @@ fn conclude(
         Operation::And => operand::deposit(word, file, ram, rom, spot, v),
         Operation::Sub => operand::deposit(word, file, ram, rom, spot, v),
         Operation::Xor => operand::deposit(word, file, ram, rom, spot, v),
-        Operation::Cmp => Bus { cycles: 0 },
+        Operation::Cmp => tally::none(),
     }
 }
 
@@ -46,7 +46,7 @@ fn two(
     to: Place,
     from: Source,
 ) -> Bus
-    ensures { λ r. ⌜ OnMemory Unit (tree.two op word to from) (now (file .entry)) (now (ram .entry)) (now (rom .entry)) tt (now (file .exit)) (now (ram .exit)) r 6 ⌝ }
+    ensures { λ r. ⌜ Does (tree.two op word to from) file ram rom r 6 ⌝ }
 {
     let spot = operand::locate(file, to);
     let a = operand::fetch(word, file, ram, rom, spot);
@@ -54,22 +54,18 @@ fn two(
     let x = arith::operate(op, word, a.value, b.value, file[PSW]);
     file[PSW] = x.psw;
     let c = conclude(file, ram, rom, op, word, spot, x.value);
-    Bus {
-        cycles: a.bus.cycles + (b.bus.cycles + c.cycles),
-    }
+    tally::three(a.bus, b.bus, c)
 }
 
 fn one(file: &mut [u16; 14], ram: &mut [u8], rom: &[u8], op: Unary, word: bool, to: Place) -> Bus
-    ensures { λ r. ⌜ OnMemory Unit (tree.one op word to) (now (file .entry)) (now (ram .entry)) (now (rom .entry)) tt (now (file .exit)) (now (ram .exit)) r 6 ⌝ }
+    ensures { λ r. ⌜ Does (tree.one op word to) file ram rom r 6 ⌝ }
 {
     let spot = operand::locate(file, to);
     let a = operand::fetch(word, file, ram, rom, spot);
     let x = arith::one(op, word, a.value, file[PSW]);
     file[PSW] = x.psw;
     let b = operand::deposit(word, file, ram, rom, spot, x.value);
-    Bus {
-        cycles: a.bus.cycles + b.cycles,
-    }
+    tally::both(a.bus, b)
 }
 
 fn test(
@@ -80,19 +76,17 @@ fn test(
     left: Place,
     right: Source,
 ) -> Bus
-    ensures { λ r. ⌜ OnMemory Unit (tree.test word left right) (now (file .entry)) (now (ram .entry)) (now (rom .entry)) tt (now (file .exit)) (now (ram .exit)) r 6 ⌝ }
+    ensures { λ r. ⌜ Does (tree.test word left right) file ram rom r 6 ⌝ }
 {
     let a = operand::value_at(word, file, ram, rom, left);
     let b = operand::source_value(word, file, ram, rom, right);
     let x = arith::logic(word, a.value & b.value, file[PSW]);
     file[PSW] = x.psw;
-    Bus {
-        cycles: a.bus.cycles + b.bus.cycles,
-    }
+    tally::both(a.bus, b.bus)
 }
 
 pub fn calculate(file: &mut [u16; 14], ram: &mut [u8], rom: &[u8], i: Arithmetic) -> Bus
-    ensures { λ r. ⌜ OnMemory Unit (calculate i) (now (file .entry)) (now (ram .entry)) (now (rom .entry)) tt (now (file .exit)) (now (ram .exit)) r 6 ⌝ }
+    ensures { λ r. ⌜ Does (calculate i) file ram rom r 6 ⌝ }
 {
     match i {
         Arithmetic::Two { op, word, to, from } => two(file, ram, rom, op, word, to, from),

@@ -41,10 +41,10 @@ unfolding busCycles
 one-cycle o n e = rw e (lit≤ tt)
 
 loads-byte : {ram rom : List ℕ} {g o v : ℕ} {n : Bus} → Loads false ram rom g o v n → (f : List ℕ) → OnMemory ℕ (peek false g o) f ram rom v f ram n 1
-loads-byte {o = o} {n = n} h f = record { most = one-cycle o n (h .cost); at = h .at f .at }
+loads-byte {o = o} {n = n} h f = record { most = one-cycle o n (h .cost .is); at = h .at f .at }
 
 stores-byte : {ram ram′ : List ℕ} {g o v : ℕ} {n : Bus} → Stores false ram g o v ram′ n → (f rom : List ℕ) → OnMemory Unit (poke false g o v) f ram rom tt f ram′ n 1
-stores-byte {o = o} {n = n} h f rom = record { most = one-cycle o n (h .cost); at = h .at f rom .at }
+stores-byte {o = o} {n = n} h f rom = record { most = one-cycle o n (h .cost .is); at = h .at f rom .at }
 
 pub both-are : (f ram rom : List ℕ) (seg i g to from a b : ℕ) (n m : Bus) → to ≡ add16 (getD f IY 0) i → Loads false ram rom (getD f DS1 0) to a n → g ≡ fileOf f (segment seg)
     → from ≡ add16 (getD f IX 0) i → Loads false ram rom g from b m → Both f ram rom seg i a b (n ⊕ m)

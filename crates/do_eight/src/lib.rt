@@ -11,17 +11,15 @@ use registers::SP;
 use sheet::Bus;
 ghost use Prim.Native.Nat.{ℕ};
 ghost use Rattle.sheet.specs.Stack as tree;
-ghost use Rattle.sheet.specs.Contract.{OnMemory};
+ghost use Rattle.tally.specs.Lent.{Does, Takes};
 ghost use Rattle.do_eight.specs.Parts.{pushTwo, pushFour, popPointers, popGeneral};
 
 fn push_two(file: &mut [u16; 14], ram: &mut [u8], rom: &[u8], x: u16, y: u16) -> Bus
-    ensures { λ r. ⌜ OnMemory Unit (pushTwo x y) (now (file .entry)) (now (ram .entry)) (now (rom .entry)) tt (now (file .exit)) (now (ram .exit)) r 4 ⌝ }
+    ensures { λ r. ⌜ Does (pushTwo x y) file ram rom r 4 ⌝ }
 {
     let a = traps::push(file, ram, rom, x);
     let b = traps::push(file, ram, rom, y);
-    Bus {
-        cycles: a.cycles + b.cycles,
-    }
+    tally::both(a, b)
 }
 
 fn push_four(
@@ -33,17 +31,15 @@ fn push_four(
     c: u16,
     d: u16,
 ) -> Bus
-    ensures { λ r. ⌜ OnMemory Unit (pushFour a b c d) (now (file .entry)) (now (ram .entry)) (now (rom .entry)) tt (now (file .exit)) (now (ram .exit)) r 8 ⌝ }
+    ensures { λ r. ⌜ Does (pushFour a b c d) file ram rom r 8 ⌝ }
 {
     let x = push_two(file, ram, rom, a, b);
     let y = push_two(file, ram, rom, c, d);
-    Bus {
-        cycles: x.cycles + y.cycles,
-    }
+    tally::both(x, y)
 }
 
 pub fn push_r(file: &mut [u16; 14], ram: &mut [u8], rom: &[u8]) -> Bus
-    ensures { λ r. ⌜ OnMemory Unit tree.pushR (now (file .entry)) (now (ram .entry)) (now (rom .entry)) tt (now (file .exit)) (now (ram .exit)) r 16 ⌝ }
+    ensures { λ r. ⌜ Does tree.pushR file ram rom r 16 ⌝ }
 {
     let aw = file[AW];
     let cw = file[CW];
@@ -55,14 +51,12 @@ pub fn push_r(file: &mut [u16; 14], ram: &mut [u8], rom: &[u8]) -> Bus
     let iy = file[IY];
     let x = push_four(file, ram, rom, aw, cw, dw, bw);
     let y = push_four(file, ram, rom, sp, bp, ix, iy);
-    Bus {
-        cycles: x.cycles + y.cycles,
-    }
+    tally::both(x, y)
 }
 
 // IY, IX and BP. The word that stands for SP is read and handed back.
 fn pop_pointers(file: &mut [u16; 14], ram: &[u8], rom: &[u8]) -> Loaded
-    ensures { λ r. ⌜ OnMemory ℕ popPointers (now (file .entry)) (now (ram .entry)) (now (rom .entry)) (r .value) (now (file .exit)) (now (ram .entry)) (r .bus) 8 ⌝ }
+    ensures { λ r. ⌜ Takes ℕ popPointers file ram rom (r .value) (r .bus) 8 ⌝ }
 {
     let iy = traps::pop(file, ram, rom);
     file[IY] = iy.value;
@@ -73,14 +67,12 @@ fn pop_pointers(file: &mut [u16; 14], ram: &[u8], rom: &[u8]) -> Loaded
     let sp = traps::pop(file, ram, rom);
     Loaded {
         value: sp.value,
-        bus: Bus {
-            cycles: iy.bus.cycles + (ix.bus.cycles + (bp.bus.cycles + sp.bus.cycles)),
-        },
+        bus: tally::both(iy.bus, tally::both(ix.bus, tally::both(bp.bus, sp.bus))),
     }
 }
 
 fn pop_general(file: &mut [u16; 14], ram: &[u8], rom: &[u8]) -> Bus
-    ensures { λ r. ⌜ OnMemory Unit popGeneral (now (file .entry)) (now (ram .entry)) (now (rom .entry)) tt (now (file .exit)) (now (ram .entry)) r 8 ⌝ }
+    ensures { λ r. ⌜ Takes Unit popGeneral file ram rom tt r 8 ⌝ }
 {
     let bw = traps::pop(file, ram, rom);
     file[BW] = bw.value;
@@ -90,17 +82,13 @@ fn pop_general(file: &mut [u16; 14], ram: &[u8], rom: &[u8]) -> Bus
     file[CW] = cw.value;
     let aw = traps::pop(file, ram, rom);
     file[AW] = aw.value;
-    Bus {
-        cycles: bw.bus.cycles + (dw.bus.cycles + (cw.bus.cycles + aw.bus.cycles)),
-    }
+    tally::both(bw.bus, tally::both(dw.bus, tally::both(cw.bus, aw.bus)))
 }
 
 pub fn pop_r(file: &mut [u16; 14], ram: &[u8], rom: &[u8]) -> Bus
-    ensures { λ r. ⌜ OnMemory Unit tree.popR (now (file .entry)) (now (ram .entry)) (now (rom .entry)) tt (now (file .exit)) (now (ram .entry)) r 16 ⌝ }
+    ensures { λ r. ⌜ Takes Unit tree.popR file ram rom tt r 16 ⌝ }
 {
     let x = pop_pointers(file, ram, rom);
     let y = pop_general(file, ram, rom);
-    Bus {
-        cycles: x.bus.cycles + y.cycles,
-    }
+    tally::both(x.bus, y)
 }

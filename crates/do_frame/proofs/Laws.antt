@@ -4,6 +4,7 @@ use mathlib.Core.Path.{_≡_}
 use mathlib.Core.Bool.{true}
 use mathlib.Core.List.{List}
 use native.Mathlib.Omega.{arith}
+use lib.Dec.{lit≤}
 use lib.ListN.{getD, set}
 use Rattle.sheet.specs.declared.Bus.{Bus}
 use Rattle.sheet.specs.declared.State.{State}
@@ -18,6 +19,7 @@ use Rattle.sheet.specs.Contract.{OnMemory}
 use Rattle.sheet.proofs.Lifted.{file-seq, file-pure, file-registers, file-set, memory-seq, memory-free, memory-last, on-memory}
 use Rattle.sheet.proofs.Loop.{Goes, goes-none, goes-more, goes-end}
 use Rattle.memory.specs.Accesses.{Loads}
+use Rattle.tally.specs.Sums.{Free, Joins}
 
 pub pointer-is : (f g ram ram′ rom : List ℕ) (bp ss v : ℕ) (n m : Bus) → bp ≡ sub16 (getD f BP 0) 2 → ss ≡ getD f SS 0 → Loads true ram rom ss bp v n
     → OnMemory Unit (push v) (set f BP bp) ram rom tt g ram′ m 2 → OnMemory Unit (frame 0 tt) f ram rom tt g ram′ (n ⊕ m) 4
@@ -27,26 +29,27 @@ pointer-is f g ram ram′ rom bp ss v n m e q h k =
 
 -- ---- the loop
 
--- i of n pointers are copied, from f and ram to g and ram′, in c cycles
-pub record Copies (n : ℕ) (f ram rom : List ℕ) (i : ℕ) (g ram′ : List ℕ) (c : ℕ) : Type 0 where
-  pub most : c ≤ 4 * i
+-- i of n pointers are copied, from f and ram to g and ram′; the accesses come to c
+pub record Copies (n : ℕ) (f ram rom : List ℕ) (i : ℕ) (g ram′ : List ℕ) (c : Bus) : Type 0 where
+  pub most : c .cycles ≤ 4 * i
   pub at : (s : State) (tape log : List ℕ)
-      → Goes Unit frame n tt (world (withFile s f) ram rom tape log) i tt (world (withFile s g) ram′ rom tape log) (record { cycles = c })
+      → Goes Unit frame n tt (world (withFile s f) ram rom tape log) i tt (world (withFile s g) ram′ rom tape log) c
 
-pub copies-none : (n : ℕ) (f ram rom : List ℕ) → Copies n f ram rom 0 f ram 0
-copies-none n f ram rom = record { most = omega arith; at = λ s tape log. goes-none Unit frame n tt (world (withFile s f) ram rom tape log) }
+pub copies-none : (n : ℕ) (f ram rom : List ℕ) (c : Bus) → Free c → Copies n f ram rom 0 f ram c
+copies-none n f ram rom c e = rw (e .is) (record { most = lit≤ tt; at = λ s tape log. goes-none Unit frame n tt (world (withFile s f) ram rom tape log) })
 
-module _ (n : ℕ) (f ram rom : List ℕ) (i : ℕ) (g ram₁ : List ℕ) (c : ℕ) (p : Copies n f ram rom i g ram₁ c) where
+module _ (n : ℕ) (f ram rom : List ℕ) (i : ℕ) (g ram₁ : List ℕ) (c : Bus) (p : Copies n f ram rom i g ram₁ c) where
   -- which turn it is makes no difference to a turn
-  pub copies-more : (h ram₂ : List ℕ) (b : Bus) → i < n → OnMemory Unit (frame 0 tt) g ram₁ rom tt h ram₂ b 4 → Copies n f ram rom (i + 1) h ram₂ (c + b .cycles)
+  pub copies-more : (h ram₂ : List ℕ) (b r : Bus) → i < n → OnMemory Unit (frame 0 tt) g ram₁ rom tt h ram₂ b 4 → Joins c b r → Copies n f ram rom (i + 1) h ram₂ r
   unfolding frame
-  copies-more h ram₂ b q k =
-      record {
+  copies-more h ram₂ b r q k j =
+      rw (j .is)
+      (record {
         most = (let m = p .most in let t = k .most in omega arith);
         at = λ s tape log. goes-more Unit frame n tt _ i tt _ _ (p .at s tape log) tt _ b q (k .at s tape log);
-      }
+      })
 
-  pub copies-end : n ≤ i → i ≤ n → n ≤ 254 → OnMemory Unit (loop frame n 0 tt) f ram rom tt g ram₁ (record { cycles = c }) 1016
+  pub copies-end : n ≤ i → i ≤ n → n ≤ 254 → OnMemory Unit (loop frame n 0 tt) f ram rom tt g ram₁ c 1016
   copies-end q r z = record { most = (let m = p .most in omega arith); at = λ s tape log. goes-end Unit frame n tt _ i tt _ _ (p .at s tape log) q }
 
 -- ---- the rest

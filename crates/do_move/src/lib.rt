@@ -9,22 +9,20 @@ use sheet::Source;
 use sheet::Transfer;
 ghost use mathlib.Core.Path.{_≡_};
 ghost use Rattle.sheet.specs.Transfer as tree;
-ghost use Rattle.sheet.specs.Contract.{OnMemory};
+ghost use Rattle.tally.specs.Lent.{Does};
 
 fn mov(file: &mut [u16; 14], ram: &mut [u8], rom: &[u8], word: bool, to: Place, from: Source) -> Bus
-    ensures { λ r. ⌜ OnMemory Unit (tree.mov word to from) (now (file .entry)) (now (ram .entry)) (now (rom .entry)) tt (now (file .exit)) (now (ram .exit)) r 4 ⌝ }
+    ensures { λ r. ⌜ Does (tree.mov word to from) file ram rom r 4 ⌝ }
 {
     let v = operand::source_value(word, file, ram, rom, from);
     let spot = operand::locate(file, to);
     let b = operand::deposit(word, file, ram, rom, spot, v.value);
-    Bus {
-        cycles: v.bus.cycles + b.cycles,
-    }
+    tally::both(v.bus, b)
 }
 
 // MOV acc,dmem
 fn load_acc(file: &mut [u16; 14], ram: &mut [u8], rom: &[u8], word: bool, from: Address) -> Bus
-    ensures { λ r. ⌜ OnMemory Unit (tree.loadAcc word from) (now (file .entry)) (now (ram .entry)) (now (rom .entry)) tt (now (file .exit)) (now (ram .exit)) r 4 ⌝ }
+    ensures { λ r. ⌜ Does (tree.loadAcc word from) file ram rom r 4 ⌝ }
 {
     let g = operand::base(file, from);
     let o = operand::offset(file, from);
@@ -35,7 +33,7 @@ fn load_acc(file: &mut [u16; 14], ram: &mut [u8], rom: &[u8], word: bool, from: 
 
 // MOV dmem,acc
 fn store_acc(file: &mut [u16; 14], ram: &mut [u8], rom: &[u8], word: bool, to: Address) -> Bus
-    ensures { λ r. ⌜ OnMemory Unit (tree.storeAcc word to) (now (file .entry)) (now (ram .entry)) (now (rom .entry)) tt (now (file .exit)) (now (ram .exit)) r 4 ⌝ }
+    ensures { λ r. ⌜ Does (tree.storeAcc word to) file ram rom r 4 ⌝ }
 {
     let v = registers::reg(word, file, 0);
     let g = operand::base(file, to);
@@ -44,7 +42,7 @@ fn store_acc(file: &mut [u16; 14], ram: &mut [u8], rom: &[u8], word: bool, to: A
 }
 
 fn to_segment(file: &mut [u16; 14], ram: &mut [u8], rom: &[u8], seg: u8, from: Place) -> Bus
-    ensures { λ r. ⌜ OnMemory Unit (tree.toSegment seg from) (now (file .entry)) (now (ram .entry)) (now (rom .entry)) tt (now (file .exit)) (now (ram .exit)) r 4 ⌝ }
+    ensures { λ r. ⌜ Does (tree.toSegment seg from) file ram rom r 4 ⌝ }
 {
     let v = operand::value_at(true, file, ram, rom, from);
     registers::set_base(file, seg, v.value);
@@ -52,7 +50,7 @@ fn to_segment(file: &mut [u16; 14], ram: &mut [u8], rom: &[u8], seg: u8, from: P
 }
 
 fn from_segment(file: &mut [u16; 14], ram: &mut [u8], rom: &[u8], to: Place, seg: u8) -> Bus
-    ensures { λ r. ⌜ OnMemory Unit (tree.fromSegment to seg) (now (file .entry)) (now (ram .entry)) (now (rom .entry)) tt (now (file .exit)) (now (ram .exit)) r 4 ⌝ }
+    ensures { λ r. ⌜ Does (tree.fromSegment to seg) file ram rom r 4 ⌝ }
 {
     let spot = operand::locate(file, to);
     let v = registers::base(file, seg);
@@ -68,7 +66,7 @@ fn load_pointer(
     reg: u8,
     from: Address,
 ) -> Bus
-    ensures { λ r. ⌜ OnMemory Unit (tree.loadPointer seg reg from) (now (file .entry)) (now (ram .entry)) (now (rom .entry)) tt (now (file .exit)) (now (ram .exit)) r 4 ⌝ }
+    ensures { λ r. ⌜ Does (tree.loadPointer seg reg from) file ram rom r 4 ⌝ }
 {
     let p = operand::pair_at(file, ram, rom, from);
     registers::set_reg(true, file, reg, p.low);
@@ -78,32 +76,32 @@ fn load_pointer(
 
 // MOV AH,PSW
 fn ah_from_psw(file: &mut [u16; 14], ram: &mut [u8], rom: &[u8]) -> Bus
-    ensures { λ r. ⌜ OnMemory Unit (tree.ahFromPsw) (now (file .entry)) (now (ram .entry)) (now (rom .entry)) tt (now (file .exit)) (now (ram .exit)) r 4 ⌝ }
+    ensures { λ r. ⌜ Does (tree.ahFromPsw) file ram rom r 4 ⌝ }
 {
     let x = file[PSW] % 256;
     registers::set_reg(false, file, 4, x);
-    Bus { cycles: 0 }
+    tally::none()
 }
 
 // MOV PSW,AH
 fn psw_from_ah(file: &mut [u16; 14], ram: &mut [u8], rom: &[u8]) -> Bus
-    ensures { λ r. ⌜ OnMemory Unit (tree.pswFromAh) (now (file .entry)) (now (ram .entry)) (now (rom .entry)) tt (now (file .exit)) (now (ram .exit)) r 4 ⌝ }
+    ensures { λ r. ⌜ Does (tree.pswFromAh) file ram rom r 4 ⌝ }
 {
     let ah = registers::reg(false, file, 4);
     file[PSW] = psw::from_ah(ah, file[PSW]);
-    Bus { cycles: 0 }
+    tally::none()
 }
 
 fn ldea(file: &mut [u16; 14], ram: &mut [u8], rom: &[u8], reg: u8, from: Address) -> Bus
-    ensures { λ r. ⌜ OnMemory Unit (tree.ldea reg from) (now (file .entry)) (now (ram .entry)) (now (rom .entry)) tt (now (file .exit)) (now (ram .exit)) r 4 ⌝ }
+    ensures { λ r. ⌜ Does (tree.ldea reg from) file ram rom r 4 ⌝ }
 {
     let o = operand::offset(file, from);
     registers::set_reg(true, file, reg, o);
-    Bus { cycles: 0 }
+    tally::none()
 }
 
 fn trans(file: &mut [u16; 14], ram: &mut [u8], rom: &[u8], seg: u8) -> Bus
-    ensures { λ r. ⌜ OnMemory Unit (tree.trans seg) (now (file .entry)) (now (ram .entry)) (now (rom .entry)) tt (now (file .exit)) (now (ram .exit)) r 4 ⌝ }
+    ensures { λ r. ⌜ Does (tree.trans seg) file ram rom r 4 ⌝ }
 {
     let g = registers::base(file, seg);
     let o = word::plus16(file[BW], file[AW] % 256);
@@ -113,20 +111,18 @@ fn trans(file: &mut [u16; 14], ram: &mut [u8], rom: &[u8], seg: u8) -> Bus
 }
 
 fn xch(file: &mut [u16; 14], ram: &mut [u8], rom: &[u8], word: bool, reg: u8, with: Place) -> Bus
-    ensures { λ r. ⌜ OnMemory Unit (tree.xch word reg with) (now (file .entry)) (now (ram .entry)) (now (rom .entry)) tt (now (file .exit)) (now (ram .exit)) r 4 ⌝ }
+    ensures { λ r. ⌜ Does (tree.xch word reg with) file ram rom r 4 ⌝ }
 {
     let spot = operand::locate(file, with);
     let x = operand::fetch(word, file, ram, rom, spot);
     let y = registers::reg(word, file, reg);
     let b = operand::deposit(word, file, ram, rom, spot, y);
     registers::set_reg(word, file, reg, x.value);
-    Bus {
-        cycles: x.bus.cycles + b.cycles,
-    }
+    tally::both(x.bus, b)
 }
 
 pub fn transfer(file: &mut [u16; 14], ram: &mut [u8], rom: &[u8], i: Transfer) -> Bus
-    ensures { λ r. ⌜ OnMemory Unit (tree.transfer i) (now (file .entry)) (now (ram .entry)) (now (rom .entry)) tt (now (file .exit)) (now (ram .exit)) r 4 ⌝ }
+    ensures { λ r. ⌜ Does (tree.transfer i) file ram rom r 4 ⌝ }
 {
     match i {
         Transfer::Mov { word, to, from } => mov(file, ram, rom, word, to, from),

@@ -9,11 +9,11 @@ use sheet::Stack;
 ghost use Rattle.sheet.specs.declared.Place.the-variants.{Memory};
 ghost use Rattle.sheet.specs.Traps.{pushPsw};
 ghost use Rattle.sheet.specs.Stack as tree;
-ghost use Rattle.sheet.specs.Contract.{OnMemory};
+ghost use Rattle.tally.specs.Lent.{Does, Takes};
 
 // SP falls before the register is read.
 fn push_register(file: &mut [u16; 14], ram: &mut [u8], rom: &[u8], n: u8) -> Bus
-    ensures { λ r. ⌜ OnMemory Unit (tree.pushRegister n) (now (file .entry)) (now (ram .entry)) (now (rom .entry)) tt (now (file .exit)) (now (ram .exit)) r 2 ⌝ }
+    ensures { λ r. ⌜ Does (tree.pushRegister n) file ram rom r 2 ⌝ }
 {
     file[SP] = word::minus16(file[SP], 2);
     let ss = file[SS];
@@ -23,17 +23,15 @@ fn push_register(file: &mut [u16; 14], ram: &mut [u8], rom: &[u8], n: u8) -> Bus
 }
 
 fn push_held(file: &mut [u16; 14], ram: &mut [u8], rom: &[u8], a: Address) -> Bus
-    ensures { λ r. ⌜ OnMemory Unit (tree.pushPlace (Memory a)) (now (file .entry)) (now (ram .entry)) (now (rom .entry)) tt (now (file .exit)) (now (ram .exit)) r 4 ⌝ }
+    ensures { λ r. ⌜ Does (tree.pushPlace (Memory a)) file ram rom r 4 ⌝ }
 {
     let v = operand::value_at(true, file, ram, rom, Place::Memory(a));
     let b = traps::push(file, ram, rom, v.value);
-    Bus {
-        cycles: v.bus.cycles + b.cycles,
-    }
+    tally::both(v.bus, b)
 }
 
 fn push_place(file: &mut [u16; 14], ram: &mut [u8], rom: &[u8], from: Place) -> Bus
-    ensures { λ r. ⌜ OnMemory Unit (tree.pushPlace from) (now (file .entry)) (now (ram .entry)) (now (rom .entry)) tt (now (file .exit)) (now (ram .exit)) r 4 ⌝ }
+    ensures { λ r. ⌜ Does (tree.pushPlace from) file ram rom r 4 ⌝ }
 {
     match from {
         Place::Register(n) => push_register(file, ram, rom, n),
@@ -42,32 +40,30 @@ fn push_place(file: &mut [u16; 14], ram: &mut [u8], rom: &[u8], from: Place) -> 
 }
 
 fn push_segment(file: &mut [u16; 14], ram: &mut [u8], rom: &[u8], seg: u8) -> Bus
-    ensures { λ r. ⌜ OnMemory Unit (tree.pushSegment seg) (now (file .entry)) (now (ram .entry)) (now (rom .entry)) tt (now (file .exit)) (now (ram .exit)) r 2 ⌝ }
+    ensures { λ r. ⌜ Does (tree.pushSegment seg) file ram rom r 2 ⌝ }
 {
     let v = registers::base(file, seg);
     traps::push(file, ram, rom, v)
 }
 
 fn push_psw(file: &mut [u16; 14], ram: &mut [u8], rom: &[u8]) -> Bus
-    ensures { λ r. ⌜ OnMemory Unit pushPsw (now (file .entry)) (now (ram .entry)) (now (rom .entry)) tt (now (file .exit)) (now (ram .exit)) r 2 ⌝ }
+    ensures { λ r. ⌜ Does pushPsw file ram rom r 2 ⌝ }
 {
     let x = word::word(file[PSW]);
     traps::push(file, ram, rom, x)
 }
 
 fn pop_place(file: &mut [u16; 14], ram: &mut [u8], rom: &[u8], to: Place) -> Bus
-    ensures { λ r. ⌜ OnMemory Unit (tree.popPlace to) (now (file .entry)) (now (ram .entry)) (now (rom .entry)) tt (now (file .exit)) (now (ram .exit)) r 4 ⌝ }
+    ensures { λ r. ⌜ Does (tree.popPlace to) file ram rom r 4 ⌝ }
 {
     let v = traps::pop(file, ram, rom);
     let spot = operand::locate(file, to);
     let b = operand::deposit(true, file, ram, rom, spot, v.value);
-    Bus {
-        cycles: v.bus.cycles + b.cycles,
-    }
+    tally::both(v.bus, b)
 }
 
 fn pop_segment(file: &mut [u16; 14], ram: &[u8], rom: &[u8], seg: u8) -> Bus
-    ensures { λ r. ⌜ OnMemory Unit (tree.popSegment seg) (now (file .entry)) (now (ram .entry)) (now (rom .entry)) tt (now (file .exit)) (now (ram .entry)) r 2 ⌝ }
+    ensures { λ r. ⌜ Takes Unit (tree.popSegment seg) file ram rom tt r 2 ⌝ }
 {
     let v = traps::pop(file, ram, rom);
     registers::set_base(file, seg, v.value);
@@ -75,7 +71,7 @@ fn pop_segment(file: &mut [u16; 14], ram: &[u8], rom: &[u8], seg: u8) -> Bus
 }
 
 fn pop_psw(file: &mut [u16; 14], ram: &[u8], rom: &[u8]) -> Bus
-    ensures { λ r. ⌜ OnMemory Unit tree.popPsw (now (file .entry)) (now (ram .entry)) (now (rom .entry)) tt (now (file .exit)) (now (ram .entry)) r 2 ⌝ }
+    ensures { λ r. ⌜ Takes Unit tree.popPsw file ram rom tt r 2 ⌝ }
 {
     let x = traps::pop(file, ram, rom);
     file[PSW] = psw::restore(x.value);
@@ -83,7 +79,7 @@ fn pop_psw(file: &mut [u16; 14], ram: &[u8], rom: &[u8]) -> Bus
 }
 
 pub fn stack(file: &mut [u16; 14], ram: &mut [u8], rom: &[u8], i: Stack) -> Bus
-    ensures { λ r. ⌜ OnMemory Unit (tree.stack i) (now (file .entry)) (now (ram .entry)) (now (rom .entry)) tt (now (file .exit)) (now (ram .exit)) r 1020 ⌝ }
+    ensures { λ r. ⌜ Does (tree.stack i) file ram rom r 1020 ⌝ }
 {
     match i {
         Stack::Push { from } => push_place(file, ram, rom, from),

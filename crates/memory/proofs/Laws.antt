@@ -9,8 +9,8 @@ use lib.Seq.{set-out}
 use borrow.Author.Tests.{lt-ltb, le-ltb, le-leb, lt-leb}
 use Rattle.sheet.specs.declared.Bus.{Bus}
 use Rattle.sheet.specs.Width.{modOf}
-use Rattle.sheet.specs.Memory.{physical, next, byteAt, readMem, writeMem, busCycles}
-use Rattle.sheet.specs.Handler.{busOf}
+use Rattle.sheet.specs.Memory.{physical, next, byteAt, readMem, writeMem}
+use Rattle.tally.specs.Sums.{Costs}
 use Rattle.sheet.proofs.Lifted.{memory-peek, memory-poke}
 use Rattle.memory.specs.Accesses.{Loads, Stores}
 
@@ -52,16 +52,8 @@ pub write-byte : (w : Bool) (ram ram′ : List ℕ) (g o v : ℕ) → w ≡ fals
 unfolding writeMem
 write-byte w ram ram′ g o v p e = rw (p, e)
 
-pub bus-word : (w : Bool) (o : ℕ) → w ≡ true → _≡_ {A = Bus} (record { cycles = 1 + o % 2 }) (busOf w o)
-unfolding busCycles
-bus-word w o p = rw p
+pub loads : (w : Bool) (ram rom : List ℕ) (g o v : ℕ) (n : Bus) → v ≡ readMem w ram rom g o → v < modOf w → Costs w o n → Loads w ram rom g o v n
+loads w ram rom g o v n e h q = record { below = h; cost = q; at = λ f. memory-peek w g o v n f ram rom e (q .is) }
 
-pub bus-byte : (w : Bool) (o : ℕ) → w ≡ false → _≡_ {A = Bus} (record { cycles = 1 }) (busOf w o)
-unfolding busCycles
-bus-byte w o p = rw p
-
-pub loads : (w : Bool) (ram rom : List ℕ) (g o v : ℕ) (n : Bus) → v ≡ readMem w ram rom g o → v < modOf w → n ≡ busOf w o → n .cycles ≤ 2 → Loads w ram rom g o v n
-loads w ram rom g o v n e h q k = record { below = h; cost = q; most = k; at = λ f. memory-peek w g o v n f ram rom e q }
-
-pub stores : (w : Bool) (ram ram′ : List ℕ) (g o v : ℕ) (n : Bus) → ram′ ≡ writeMem w ram g o v → n ≡ busOf w o → n .cycles ≤ 2 → Stores w ram g o v ram′ n
-stores w ram ram′ g o v n e q k = record { cost = q; most = k; at = λ f rom. memory-poke w g o v n f ram rom ram′ e q }
+pub stores : (w : Bool) (ram ram′ : List ℕ) (g o v : ℕ) (n : Bus) → ram′ ≡ writeMem w ram g o v → Costs w o n → Stores w ram g o v ram′ n
+stores w ram ram′ g o v n e q = record { cost = q; at = λ f rom. memory-poke w g o v n f ram rom ram′ e (q .is) }

@@ -1,11 +1,10 @@
 // The address space in code: RAM from address 0, ROM up to FFFFFh, FFh elsewhere.
 use sheet::Bus;
 ghost use mathlib.Core.Path.{_≡_};
-ghost use Prim.Native.Nat.{_≤_, _<_};
+ghost use Prim.Native.Nat.{_<_};
 ghost use lib.ListN.{set};
 ghost use Rattle.sheet.specs.Width.{modOf};
 ghost use Rattle.sheet.specs.Memory.{physical, byteAt, readMem, writeMem};
-ghost use Rattle.sheet.specs.Handler.{busOf};
 ghost use Rattle.memory.specs.Accesses.{Loads, Stores};
 
 // The address of an offset in a segment.
@@ -61,18 +60,6 @@ pub fn write(word: bool, ram: &mut [u8], base: u16, offset: u16, v: u16)
     }
 }
 
-// What an access of a width at an offset, or at a port, comes to.
-pub fn bus_of(word: bool, offset: u16) -> Bus
-    ensures { λ r. ⌜ (r ≡ busOf word offset) × (r .cycles ≤ 2) ⌝ }
-{
-    if word {
-        return Bus {
-            cycles: 1 + ((offset % 2) as u32),
-        };
-    }
-    Bus { cycles: 1 }
-}
-
 // A number that was read, and what reading it came to on the bus.
 pub struct Loaded {
     pub value: u16,
@@ -84,7 +71,7 @@ pub fn load(word: bool, ram: &[u8], rom: &[u8], base: u16, offset: u16) -> Loade
 {
     Loaded {
         value: read(word, ram, rom, base, offset),
-        bus: bus_of(word, offset),
+        bus: tally::of_access(word, offset),
     }
 }
 
@@ -92,5 +79,5 @@ pub fn store(word: bool, ram: &mut [u8], base: u16, offset: u16, v: u16) -> Bus
     ensures { λ r. ⌜ Stores word (now (ram .entry)) base offset v (now (ram .exit)) r ⌝ }
 {
     write(word, ram, base, offset, v);
-    bus_of(word, offset)
+    tally::of_access(word, offset)
 }

@@ -13,7 +13,8 @@ ghost use Prim.Native.Nat.{ℕ};
 ghost use Rattle.sheet.specs.Registers.{fileOf};
 ghost use Rattle.sheet.specs.Operand.{indexOf, formAt, formOffset, offsetOf, baseOf};
 ghost use Rattle.sheet.specs.Operand as tree;
-ghost use Rattle.sheet.specs.Contract.{OnFile, OnMemory};
+ghost use Rattle.sheet.specs.Contract.{OnFile};
+ghost use Rattle.tally.specs.Lent.{Does, Finds};
 
 // The word of an index register, or 0.
 fn index(file: &[u16; 14], i: Index) -> u16
@@ -70,12 +71,12 @@ pub fn locate(file: &[u16; 14], place: Place) -> Spot
 
 // Reads what stands there.
 pub fn fetch(word: bool, file: &[u16; 14], ram: &[u8], rom: &[u8], spot: Spot) -> Loaded
-    ensures { λ r. ⌜ OnMemory ℕ (tree.fetch word spot) (now (file .entry)) (now (ram .entry)) (now (rom .entry)) (r .value) (now (file .entry)) (now (ram .entry)) (r .bus) 2 ⌝ }
+    ensures { λ r. ⌜ Finds ℕ (tree.fetch word spot) file ram rom (r .value) (r .bus) 2 ⌝ }
 {
     match spot {
         Spot::InRegister(n) => Loaded {
             value: registers::reg(word, file, n),
-            bus: Bus { cycles: 0 },
+            bus: tally::none(),
         },
         Spot::InMemory { base, offset } => memory::load(word, ram, rom, base, offset),
     }
@@ -90,12 +91,12 @@ pub fn deposit(
     spot: Spot,
     v: u16,
 ) -> Bus
-    ensures { λ r. ⌜ OnMemory Unit (tree.deposit word spot v) (now (file .entry)) (now (ram .entry)) (now (rom .entry)) tt (now (file .exit)) (now (ram .exit)) r 2 ⌝ }
+    ensures { λ r. ⌜ Does (tree.deposit word spot v) file ram rom r 2 ⌝ }
 {
     match spot {
         Spot::InRegister(n) => {
             registers::set_reg(word, file, n, v);
-            Bus { cycles: 0 }
+            tally::none()
         }
         Spot::InMemory { base, offset } => memory::store(word, ram, base, offset, v),
     }
@@ -103,7 +104,7 @@ pub fn deposit(
 
 // A place that is only read.
 pub fn value_at(word: bool, file: &[u16; 14], ram: &[u8], rom: &[u8], place: Place) -> Loaded
-    ensures { λ r. ⌜ OnMemory ℕ (tree.valueAt word place) (now (file .entry)) (now (ram .entry)) (now (rom .entry)) (r .value) (now (file .entry)) (now (ram .entry)) (r .bus) 2 ⌝ }
+    ensures { λ r. ⌜ Finds ℕ (tree.valueAt word place) file ram rom (r .value) (r .bus) 2 ⌝ }
 {
     let spot = locate(file, place);
     fetch(word, file, ram, rom, spot)
@@ -111,13 +112,13 @@ pub fn value_at(word: bool, file: &[u16; 14], ram: &[u8], rom: &[u8], place: Pla
 
 // A place or an immediate.
 pub fn source_value(word: bool, file: &[u16; 14], ram: &[u8], rom: &[u8], source: Source) -> Loaded
-    ensures { λ r. ⌜ OnMemory ℕ (tree.sourceValue word source) (now (file .entry)) (now (ram .entry)) (now (rom .entry)) (r .value) (now (file .entry)) (now (ram .entry)) (r .bus) 2 ⌝ }
+    ensures { λ r. ⌜ Finds ℕ (tree.sourceValue word source) file ram rom (r .value) (r .bus) 2 ⌝ }
 {
     match source {
         Source::Held(place) => value_at(word, file, ram, rom, place),
         Source::Immediate(v) => Loaded {
             value: v,
-            bus: Bus { cycles: 0 },
+            bus: tally::none(),
         },
     }
 }
@@ -130,7 +131,7 @@ pub struct Pair {
 }
 
 pub fn pair_at(file: &[u16; 14], ram: &[u8], rom: &[u8], a: Address) -> Pair
-    ensures { λ r. ⌜ OnMemory (ℕ × ℕ) (tree.pairAt a) (now (file .entry)) (now (ram .entry)) (now (rom .entry)) ((r .low, r .high)) (now (file .entry)) (now (ram .entry)) (r .bus) 4 ⌝ }
+    ensures { λ r. ⌜ Finds (ℕ × ℕ) (tree.pairAt a) file ram rom ((r .low, r .high)) (r .bus) 4 ⌝ }
 {
     let g = base(file, a);
     let o = offset(file, a);
@@ -140,9 +141,7 @@ pub fn pair_at(file: &[u16; 14], ram: &[u8], rom: &[u8], a: Address) -> Pair
     Pair {
         low: low.value,
         high: high.value,
-        bus: Bus {
-            cycles: low.bus.cycles + high.bus.cycles,
-        },
+        bus: tally::both(low.bus, high.bus),
     }
 }
 

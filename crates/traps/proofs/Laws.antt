@@ -2,7 +2,7 @@
 use Prim.Native.Nat.{ℕ, _+_, _*_, _%_, _≤_, _<_}
 use mathlib.Core.Bool.{true}
 use mathlib.Core.List.{List}
-use mathlib.Core.Path.{_≡_, refl}
+use mathlib.Core.Path.{_≡_}
 use native.Mathlib.Omega.{arith}
 use lib.ListN.{getD, set}
 use Rattle.sheet.specs.declared.Bus.{Bus}
@@ -11,13 +11,14 @@ use Rattle.sheet.specs.Psw.{keeps, entering, settled}
 use Rattle.sheet.specs.Registers.{SP, SS, PS, PC, PSW}
 use Rattle.sheet.specs.Memory.{busCycles}
 use Rattle.sheet.specs.Act.{peek}
-use Rattle.sheet.specs.Handler.{_⊕_, busOf}
+use Rattle.sheet.specs.Handler.{_⊕_}
 use Rattle.sheet.specs.Traps.{push, pop, pushPsw, pushPsPc, jumpFar, save, trap}
 use Rattle.sheet.specs.Contract.{OnMemory}
 use Rattle.sheet.proofs.Rules.{⊕-assoc}
 use Rattle.sheet.proofs.Lifted.{file-seq, file-pure, file-registers, file-set, file-psw, file-flags, memory-seq, memory-free, memory-last}
 use Rattle.word.proofs.WidthLaws.{wrap-id}
 use Rattle.memory.specs.Accesses.{Loads, Stores}
+use Rattle.tally.specs.Sums.{Costs, Joins}
 use Rattle.traps.specs.Vector.{Fetches}
 
 pub push-is : (f ram rom ram′ : List ℕ) (v sp ss : ℕ) (n : Bus) → sp ≡ sub16 (getD f SP 0) 2 → ss ≡ getD f SS 0 → Stores true ram ss sp v ram′ n
@@ -48,22 +49,22 @@ save-is f g h ram ram₁ ram₂ rom old x n m e l p q k =
     memory-seq _ {t = 2} {u = 4} (pushed-psw f g ram ram₁ rom old n e l p) (memory-free _ (file-flags entering q) k)
 
 -- a word at an even offset takes one cycle
-even-word : (o : ℕ) (n : Bus) → n ≡ busOf true o → o % 2 ≡ 0 → n .cycles ≤ 1
+even-word : (o : ℕ) (n : Bus) → Costs true o n → o % 2 ≡ 0 → n .cycles ≤ 1
 unfolding busCycles
-even-word o n e h = rw e (omega arith)
+even-word o n e h = rw (e .is) (omega arith)
 
 loads-even : (ram rom : List ℕ) (o v : ℕ) (n : Bus) → Loads true ram rom 0 o v n → o % 2 ≡ 0 → (f : List ℕ) → OnMemory ℕ (peek true 0 o) f ram rom v f ram n 1
 loads-even ram rom o v n h e f = record { most = even-word o n (h .cost) e; at = h .at f .at }
 
-pub fetches : (ram rom : List ℕ) (v at pc ps : ℕ) (n m : Bus) → at ≡ 4 * v → Loads true ram rom 0 at pc n → Loads true ram rom 0 (at + 2) ps m → Fetches ram rom v pc ps (n ⊕ m)
-fetches ram rom v at pc ps n m e p q =
+pub fetches : (ram rom : List ℕ) (v at pc ps : ℕ) (n m r : Bus) → at ≡ 4 * v → Loads true ram rom 0 at pc n → Loads true ram rom 0 (at + 2) ps m → Joins n m r → Fetches ram rom v pc ps r
+fetches ram rom v at pc ps n m r e p q j =
     let a = even-word at n (p .cost) (omega arith) in
     let b = even-word (at + 2) m (q .cost) (omega arith) in
     record {
-      most = omega arith;
+      most = rw (j .is) (omega arith);
       first = n;
       second = m;
-      sum = refl;
+      sum = j .is;
       offset = rw (← e) (loads-even ram rom at pc n p (omega arith));
       base = rw (← e) (loads-even ram rom (at + 2) ps m q (omega arith));
     }

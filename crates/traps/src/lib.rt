@@ -9,11 +9,11 @@ use sheet::Bus;
 ghost use mathlib.Core.Path.{_≡_};
 ghost use Prim.Native.Nat.{ℕ};
 ghost use Rattle.sheet.specs.Traps as tree;
-ghost use Rattle.sheet.specs.Contract.{OnMemory};
+ghost use Rattle.tally.specs.Lent.{Does, Takes};
 ghost use Rattle.traps.specs.Vector.{Fetches};
 
 pub fn push(file: &mut [u16; 14], ram: &mut [u8], rom: &[u8], v: u16) -> Bus
-    ensures { λ r. ⌜ OnMemory Unit (tree.push v) (now (file .entry)) (now (ram .entry)) (now (rom .entry)) tt (now (file .exit)) (now (ram .exit)) r 2 ⌝ }
+    ensures { λ r. ⌜ Does (tree.push v) file ram rom r 2 ⌝ }
 {
     let sp = word::minus16(file[SP], 2);
     let ss = file[SS];
@@ -22,7 +22,7 @@ pub fn push(file: &mut [u16; 14], ram: &mut [u8], rom: &[u8], v: u16) -> Bus
 }
 
 pub fn pop(file: &mut [u16; 14], ram: &[u8], rom: &[u8]) -> Loaded
-    ensures { λ r. ⌜ OnMemory ℕ tree.pop (now (file .entry)) (now (ram .entry)) (now (rom .entry)) (r .value) (now (file .exit)) (now (ram .entry)) (r .bus) 2 ⌝ }
+    ensures { λ r. ⌜ Takes ℕ tree.pop file ram rom (r .value) (r .bus) 2 ⌝ }
 {
     let sp = file[SP];
     let ss = file[SS];
@@ -31,28 +31,24 @@ pub fn pop(file: &mut [u16; 14], ram: &[u8], rom: &[u8]) -> Loaded
 }
 
 pub fn push_ps_pc(file: &mut [u16; 14], ram: &mut [u8], rom: &[u8]) -> Bus
-    ensures { λ r. ⌜ OnMemory Unit tree.pushPsPc (now (file .entry)) (now (ram .entry)) (now (rom .entry)) tt (now (file .exit)) (now (ram .exit)) r 4 ⌝ }
+    ensures { λ r. ⌜ Does tree.pushPsPc file ram rom r 4 ⌝ }
 {
     let ps = file[PS];
     let pc = file[PC];
     let a = push(file, ram, rom, ps);
     let b = push(file, ram, rom, pc);
-    Bus {
-        cycles: a.cycles + b.cycles,
-    }
+    tally::both(a, b)
 }
 
 // PSW, PS and the PC then due go onto the stack; IE and BRK become 0.
 pub fn save(file: &mut [u16; 14], ram: &mut [u8], rom: &[u8]) -> Bus
-    ensures { λ r. ⌜ OnMemory Unit tree.save (now (file .entry)) (now (ram .entry)) (now (rom .entry)) tt (now (file .exit)) (now (ram .exit)) r 6 ⌝ }
+    ensures { λ r. ⌜ Does tree.save file ram rom r 6 ⌝ }
 {
     let old = word::word(file[PSW]);
     let a = push(file, ram, rom, old);
     file[PSW] = psw::enter(file[PSW]);
     let b = push_ps_pc(file, ram, rom);
-    Bus {
-        cycles: a.cycles + b.cycles,
-    }
+    tally::both(a, b)
 }
 
 // Where a vector points.
@@ -71,9 +67,7 @@ pub fn vector(ram: &[u8], rom: &[u8], v: u8) -> Target
     Target {
         pc: pc.value,
         ps: ps.value,
-        bus: Bus {
-            cycles: pc.bus.cycles + ps.bus.cycles,
-        },
+        bus: tally::both(pc.bus, ps.bus),
     }
 }
 
@@ -84,13 +78,11 @@ pub struct Worked {
 }
 
 pub fn trap(file: &mut [u16; 14], ram: &mut [u8], rom: &[u8], v: u8) -> Bus
-    ensures { λ r. ⌜ OnMemory Unit (tree.trap v) (now (file .entry)) (now (ram .entry)) (now (rom .entry)) tt (now (file .exit)) (now (ram .exit)) r 8 ⌝ }
+    ensures { λ r. ⌜ Does (tree.trap v) file ram rom r 8 ⌝ }
 {
     let at = vector(ram, rom, v);
     let b = save(file, ram, rom);
     file[PS] = at.ps;
     file[PC] = at.pc;
-    Bus {
-        cycles: at.bus.cycles + b.cycles,
-    }
+    tally::both(at.bus, b)
 }

@@ -1,10 +1,11 @@
+use Rattle.tally.proofs.Laws.{sums}
 use Rattle.do_arith.proofs.Laws.{test-is}
 use borrow.Author.Needs.{needs}
 use Rattle.do_arith.proofs.test.Statement.{statement}
 use Rattle.do_arith.proofs.test.Tie as tie
 
 returns : tie.Need-returns
-returns c = search (test-is, needs)
+returns c = search (test-is, sums, needs)
 
 pub test-spec : {M : Type 1} → statement M
 test-spec =
@@ -15,6 +16,6 @@ test-spec =
     (λ c. search needs)
     (λ c κs. search needs)
     (λ c. search needs)
-    (λ c. search needs)
+    (λ c κs. search needs)
     (λ c. search needs)
     returns)

@@ -1,10 +1,11 @@
+use Rattle.tally.proofs.Laws.{sums}
 use Rattle.do_arith.proofs.Laws.{two-is}
 use borrow.Author.Needs.{needs}
 use Rattle.do_arith.proofs.two.Statement.{statement}
 use Rattle.do_arith.proofs.two.Tie as tie
 
 returns : tie.Need-returns
-returns c = search (two-is, needs)
+returns c = search (two-is, sums, needs)
 
 pub two-spec : {M : Type 1} → statement M
 two-spec =
@@ -17,7 +18,6 @@ two-spec =
     (λ c κs. search needs)
     (λ c. search needs)
     (λ c κs. search needs)
-    (λ c. search needs)
-    (λ c. search needs)
+    (λ c κs. search needs)
     (λ c. search needs)
     returns)

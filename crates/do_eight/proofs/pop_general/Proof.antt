@@ -1,10 +1,11 @@
+use Rattle.tally.proofs.Laws.{memory-sums-four}
 use Rattle.do_eight.proofs.Laws.{general-are}
 use borrow.Author.Needs.{needs}
 use Rattle.do_eight.proofs.pop_general.Statement.{statement}
 use Rattle.do_eight.proofs.pop_general.Tie as tie
 
 returns : tie.Need-returns
-returns c = search (general-are, needs)
+returns c = search (general-are, memory-sums-four, needs)
 
 pub pop-general-spec : {M : Type 1} → statement M
 pop-general-spec =
@@ -18,7 +19,7 @@ pop-general-spec =
     (λ c. search needs)
     (λ c κs. search needs)
     (λ c. search needs)
-    (λ c. search needs)
-    (λ c. search needs)
-    (λ c. search needs)
+    (λ c κs. search needs)
+    (λ c κs. search needs)
+    (λ c κs. search needs)
     returns)

@@ -1,10 +1,11 @@
+use Rattle.tally.proofs.Laws.{memory-sums-four}
 use Rattle.do_eight.proofs.Laws.{pointers-are}
 use borrow.Author.Needs.{needs}
 use Rattle.do_eight.proofs.pop_pointers.Statement.{statement}
 use Rattle.do_eight.proofs.pop_pointers.Tie as tie
 
 returns : tie.Need-returns
-returns c = search (pointers-are, needs)
+returns c = search (pointers-are, memory-sums-four, needs)
 
 pub pop-pointers-spec : {M : Type 1} → statement M
 pop-pointers-spec =
@@ -17,7 +18,7 @@ pop-pointers-spec =
     (λ c κs. search needs)
     (λ c. search needs)
     (λ c κs. search needs)
-    (λ c. search needs)
-    (λ c. search needs)
-    (λ c. search needs)
+    (λ c κs. search needs)
+    (λ c κs. search needs)
+    (λ c κs. search needs)
     returns)

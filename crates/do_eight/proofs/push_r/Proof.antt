@@ -1,10 +1,11 @@
+use Rattle.tally.proofs.Laws.{sums}
 use Rattle.do_eight.proofs.Laws.{push-r-is}
 use borrow.Author.Needs.{needs}
 use Rattle.do_eight.proofs.push_r.Statement.{statement}
 use Rattle.do_eight.proofs.push_r.Tie as tie
 
 returns : tie.Need-returns
-returns c = search (push-r-is, needs)
+returns c = search (push-r-is, sums, needs)
 
 pub push-r-spec : {M : Type 1} → statement M
 push-r-spec =
@@ -20,6 +21,6 @@ push-r-spec =
     (λ c. search needs)
     (λ c κs. search needs)
     (λ c κs. search needs)
-    (λ c. search needs)
+    (λ c κs. search needs)
     (λ c. search needs)
     returns)

@@ -7,10 +7,10 @@ use Rattle.do_frame.proofs.copy_pointers.Statement.{statement}
 use Rattle.do_frame.proofs.copy_pointers.Tie as tie
 
 abbrev Inv-loop : tie.InvT-loop
-Inv-loop file₀ ram₀ rom n i₀ cycles₀ file ram i cycles = (i ≤ n) × (length ram ≡ length ram₀) × Copies n file₀ ram₀ rom i file ram cycles
+Inv-loop file₀ ram₀ rom n i₀ t₀ file ram i t = (i ≤ n) × (length ram ≡ length ram₀) × Copies n file₀ ram₀ rom i file ram t
 
 abbrev μ-loop : tie.MeasureT-loop
-μ-loop file₀ ram₀ rom n i₀ cycles₀ file ram i cycles = n - i
+μ-loop file₀ ram₀ rom n i₀ t₀ file ram i t = n - i
 
 loop-holds : tie.Need-loop-holds Inv-loop μ-loop
 loop-holds c = search (copies-none, needs)
@@ -18,8 +18,8 @@ loop-holds c = search (copies-none, needs)
 copy-pointer-requires : tie.Need-copy-pointer-requires Inv-loop μ-loop
 copy-pointer-requires c κs = search needs
 
-add-cycles : tie.Need-add-cycles Inv-loop μ-loop
-add-cycles c = search needs
+both-requires : tie.Need-both-requires Inv-loop μ-loop
+both-requires c κs = search needs
 
 add-i : tie.Need-add-i Inv-loop μ-loop
 add-i c = search needs
@@ -42,9 +42,10 @@ copy-pointers-spec =
     (tie.spec
     Inv-loop
     μ-loop
+    (λ c κs. search needs)
     loop-holds
     copy-pointer-requires
-    add-cycles
+    both-requires
     add-i
     loop-less
     loop-again

@@ -1,10 +1,11 @@
+use Rattle.tally.proofs.Laws.{sums}
 use Rattle.do_frame.proofs.Laws.{prepare-is}
 use borrow.Author.Needs.{needs}
 use Rattle.do_frame.proofs.prepare.Statement.{statement}
 use Rattle.do_frame.proofs.prepare.Tie as tie
 
 returns : tie.Need-returns
-returns c = search (prepare-is, needs)
+returns c = search (prepare-is, sums, needs)
 
 pub prepare-spec : {M : Type 1} → statement M
 prepare-spec =
@@ -19,6 +20,6 @@ prepare-spec =
     (λ c. search needs)
     (λ c κs. search needs)
     (λ c. search needs)
-    (λ c. search needs)
+    (λ c κs. search needs)
     (λ c. search needs)
     returns)

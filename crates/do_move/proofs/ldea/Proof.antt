@@ -1,10 +1,12 @@
+use Rattle.tally.proofs.Laws.{sums}
 use Rattle.do_move.proofs.Laws.{ldea-is}
 use borrow.Author.Needs.{needs}
 use Rattle.do_move.proofs.ldea.Statement.{statement}
 use Rattle.do_move.proofs.ldea.Tie as tie
 
 returns : tie.Need-returns
-returns c = search (ldea-is, needs)
+returns c = search (ldea-is, sums, needs)
 
 pub ldea-spec : {M : Type 1} → statement M
-ldea-spec = tie.close (tie.spec (λ c κs. search needs) (λ c κs. search needs) returns)
+ldea-spec =
+    tie.close (tie.spec (λ c κs. search needs) (λ c κs. search needs) (λ c κs. search needs) returns)

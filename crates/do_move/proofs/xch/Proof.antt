@@ -1,10 +1,11 @@
+use Rattle.tally.proofs.Laws.{sums}
 use Rattle.do_move.proofs.Laws.{xch-is}
 use borrow.Author.Needs.{needs}
 use Rattle.do_move.proofs.xch.Statement.{statement}
 use Rattle.do_move.proofs.xch.Tie as tie
 
 returns : tie.Need-returns
-returns c = search (xch-is, needs)
+returns c = search (xch-is, sums, needs)
 
 pub xch-spec : {M : Type 1} → statement M
 xch-spec =
@@ -15,6 +16,6 @@ xch-spec =
     (λ c κs. search needs)
     (λ c κs. search needs)
     (λ c κs. search needs)
-    (λ c. search needs)
+    (λ c κs. search needs)
     (λ c. search needs)
     returns)

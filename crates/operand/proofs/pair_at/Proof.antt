@@ -1,10 +1,11 @@
+use Rattle.tally.proofs.Laws.{sums}
 use Rattle.operand.proofs.Laws.{pair-is}
 use borrow.Author.Needs.{needs}
 use Rattle.operand.proofs.pair_at.Statement.{statement}
 use Rattle.operand.proofs.pair_at.Tie as tie
 
 returns : tie.Need-returns
-returns c = search (pair-is, needs)
+returns c = search (pair-is, sums, needs)
 
 pub pair-at-spec : {M : Type 1} → statement M
 pair-at-spec =
@@ -15,5 +16,5 @@ pair-at-spec =
     (λ c κs. search needs)
     (λ c κs. search needs)
     (λ c κs. search needs)
-    (λ c. search needs)
+    (λ c κs. search needs)
     returns)

@@ -1,10 +1,11 @@
+use Rattle.tally.proofs.Laws.{sums}
 use Rattle.traps.proofs.Laws.{ps-pc-are}
 use borrow.Author.Needs.{needs}
 use Rattle.traps.proofs.push_ps_pc.Statement.{statement}
 use Rattle.traps.proofs.push_ps_pc.Tie as tie
 
 returns : tie.Need-returns
-returns c = search (ps-pc-are, needs)
+returns c = search (ps-pc-are, sums, needs)
 
 pub push-ps-pc-spec : {M : Type 1} → statement M
 push-ps-pc-spec =
@@ -14,6 +15,6 @@ push-ps-pc-spec =
     (λ c. search needs)
     (λ c κs. search needs)
     (λ c κs. search needs)
-    (λ c. search needs)
+    (λ c κs. search needs)
     (λ c. search needs)
     returns)

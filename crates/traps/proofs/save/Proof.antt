@@ -1,10 +1,11 @@
+use Rattle.tally.proofs.Laws.{sums}
 use Rattle.traps.proofs.Laws.{save-is}
 use borrow.Author.Needs.{needs}
 use Rattle.traps.proofs.save.Statement.{statement}
 use Rattle.traps.proofs.save.Tie as tie
 
 returns : tie.Need-returns
-returns c = search (save-is, needs)
+returns c = search (save-is, sums, needs)
 
 pub save-spec : {M : Type 1} → statement M
 save-spec =
@@ -17,6 +18,6 @@ save-spec =
     (λ c κs. search needs)
     (λ c. search needs)
     (λ c κs. search needs)
-    (λ c. search needs)
+    (λ c κs. search needs)
     (λ c. search needs)
     returns)

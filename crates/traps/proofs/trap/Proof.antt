@@ -1,10 +1,11 @@
+use Rattle.tally.proofs.Laws.{sums}
 use Rattle.traps.proofs.Laws.{trap-is}
 use borrow.Author.Needs.{needs}
 use Rattle.traps.proofs.trap.Statement.{statement}
 use Rattle.traps.proofs.trap.Tie as tie
 
 returns : tie.Need-returns
-returns c = search (trap-is, needs)
+returns c = search (trap-is, sums, needs)
 
 pub trap-spec : {M : Type 1} → statement M
 trap-spec =
@@ -14,6 +15,6 @@ trap-spec =
     (λ c κs. search needs)
     (λ c. search needs)
     (λ c. search needs)
-    (λ c. search needs)
+    (λ c κs. search needs)
     (λ c. search needs)
     returns)

@@ -1,10 +1,19 @@
+use Rattle.tally.proofs.Laws.{sums}
 use Rattle.traps.proofs.Laws.{fetches}
 use borrow.Author.Needs.{needs}
 use Rattle.traps.proofs.vector.Statement.{statement}
 use Rattle.traps.proofs.vector.Tie as tie
 
 returns : tie.Need-returns
-returns c = search (fetches, needs)
+returns c = search (fetches, sums, needs)
 
 pub vector-spec : {M : Type 1} → statement M
-vector-spec = tie.close (tie.spec (λ c. search needs) (λ c κs. search needs) (λ c. search needs) (λ c κs. search needs) (λ c. search needs) returns)
+vector-spec =
+    tie.close
+    (tie.spec
+    (λ c. search needs)
+    (λ c κs. search needs)
+    (λ c. search needs)
+    (λ c κs. search needs)
+    (λ c κs. search needs)
+    returns)

@@ -1,0 +1,22 @@
+-- What accesses come to, made by code: none, one, two after each other.
+use Prim.Native.Nat.{ℕ, _+_, _≤_}
+use mathlib.Core.Bool.{Bool}
+use mathlib.Core.Path.{_≡_}
+use Rattle.sheet.specs.declared.Bus.{Bus}
+use Rattle.sheet.specs.Handler.{nothing, _⊕_, busOf}
+
+pub record Free (r : Bus) : Type 0 where
+  pub is : r ≡ nothing
+
+-- one access of a width at an offset, or at a port
+pub record Costs (w : Bool) (o : ℕ) (r : Bus) : Type 0 where
+  pub is : r ≡ busOf w o
+  pub most : r .cycles ≤ 2
+
+pub record Joins (a b r : Bus) : Type 0 where
+  pub is : r ≡ a ⊕ b
+  -- as a number, for the bounds of further sums
+  pub cycles : r .cycles ≡ a .cycles + b .cycles
+
+pub record JoinsThree (a b c r : Bus) : Type 0 where
+  pub is : r ≡ a ⊕ (b ⊕ c)
