@@ -1,4 +1,5 @@
 -- An instruction's operation as a tree of acts, written like the sheet's operation column.
+-- 01:66
 use Prim.Native.Nat.{ℕ, zero, suc, _+_}
 use mathlib.Core.Bool.{Bool}
 use Rattle.sheet.specs.Registers.{File}

@@ -1,4 +1,5 @@
 -- Addition, subtraction, comparison, logic, increment, decrement, complement: results with their flag columns, and the instructions.
+-- 001:1295-1318, 1329-1333, 1383-1434; 000:978-1001, 1014-1019, 1076-1113; 01:54
 use mathlib.Core.Bool.{Bool, false, not, _&&_, Bool·beq}
 use Prim.Native.Nat.{ℕ, _+_, _-_, _%_}
 use lib.Dec.{eqb, leb, ltb}

@@ -1,4 +1,5 @@
 -- TEST1, CLR1, SET1, NOT1 on one bit of an operand.
+-- 001:1440-1482; 000:1120-1135; 002 for TEST1 and NOT1; 01:59
 use mathlib.Core.Bool.{Bool, true, false, not}
 use Prim.Native.Nat.{ℕ, _%_, _^_}
 use Rattle.sheet.specs.declared.Bit.{Bit}

@@ -1,4 +1,5 @@
 -- The block primitives, single and repeated.
+-- 001:1258-1270, 1288-1291; 000:942-952, 970-971; 01:19, 25
 use Prim.Native.Nat.{ℕ}
 use mathlib.Core.Bool.{Bool, true, false, not, _&&_}
 use lib.Dec.{eqb}

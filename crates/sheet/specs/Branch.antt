@@ -1,4 +1,5 @@
 -- CALL, RET, BR, the conditional branches and the loops. PC stands on the next instruction when these begin.
+-- 001:1564-1570, 1591-1596, 1602-1626; 000:1240-1248, 1277-1306
 use Prim.Native.Nat.{ℕ, _%_, _/_}
 use mathlib.Core.Bool.{Bool, true, false, not, _&&_, _||_, Bool·beq}
 use mathlib.Core.List.{List, [], _∷_}

@@ -1,4 +1,5 @@
 -- HALT, NOP, DI, EI, and CLR1, SET1, NOT1 of CY and DIR.
+-- 001:1462, 1487-1490, 1649-1658; 000:1145-1148, 1335-1344; 01:27
 use mathlib.Core.Bool.{true, false, not}
 use Rattle.sheet.specs.declared.Control.{Control}
 use Rattle.sheet.specs.declared.Control.the-variants.{Nop, Halt, Di, Ei, ClrCy, SetCy, NotCy, ClrDir, SetDir}

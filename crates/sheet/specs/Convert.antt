@@ -1,4 +1,5 @@
 -- CVTBD, CVTDB, CVTBW, CVTWL.
+-- 001:1379-1382; 000:1071-1074; 01:59
 use mathlib.Core.Bool.{true, false}
 use Prim.Native.Nat.{ℕ, _+_, _*_, _/_, _%_}
 use Rattle.sheet.specs.Width.{pick, signOf, extend}

@@ -1,4 +1,5 @@
 -- Decimal digits: ADJ4A, ADJ4S, ADJBA, ADJBS, ADD4S, SUB4S, CMP4S, ROL4, ROR4.
+-- 001:676-708, 1322-1328, 1375-1378; 000:1007-1013, 1066-1069; 01:19, 57-59
 use mathlib.Core.Bool.{Bool, true, false, _&&_, _||_}
 use Prim.Native.Nat.{ℕ, _+_, _*_, _/_, _%_}
 use lib.Dec.{eqb, ltb}

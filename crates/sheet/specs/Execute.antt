@@ -1,4 +1,5 @@
 -- Every instruction's operation. Each hands on whether it took a trap itself.
+-- 001:1233-1659, a row each
 use Prim.Native.Nat.{ℕ}
 use mathlib.Core.Bool.{Bool, true, false}
 use Rattle.sheet.specs.declared.Compute.{Compute}

@@ -1,4 +1,5 @@
 -- The first bytes of instructions, in their order, and an instruction with its prefixes.
+-- 001:1233-1659 by their codes, 000:917-1344 where these cannot be read; 01:9, 23, 50
 use Prim.Native.Nat.{ℕ, zero, suc, _+_}
 use mathlib.Core.Bool.{Bool, true, false, not, _&&_}
 use mathlib.Core.List.{List, [], _∷_, _++_}
@@ -116,23 +117,23 @@ unfoldable pub groupF6 : Prefixes → ℕ → Reading Instr
 groupF6 p n = do
   m ← byte
   lookUp (
-      row 0 1 (λ k. do
+      row 0 1 (λ k. do  -- TEST ..,imm 000:1093-1094
         a ← place p m
         v ← immediate (W n)
         got (Calculates (calculates.Test (W n) a (Immediate v))))
-      ∷ row 2 1 (λ k. do a ← place p m; got (Calculates (calculates.One Not (W n) a)))
-      ∷ row 3 1 (λ k. do a ← place p m; got (Calculates (calculates.One Neg (W n) a)))
-      ∷ row 4 1 (λ k. do a ← place p m; got (Multiplies (Mulu (W n) a)))
-      ∷ row 5 1 (λ k. do a ← place p m; got (Multiplies (Mul (W n) a)))
-      ∷ row 6 1 (λ k. do a ← place p m; got (Multiplies (Divu (W n) a)))
-      ∷ row 7 1 (λ k. do a ← place p m; got (Multiplies (Div (W n) a)))
+      ∷ row 2 1 (λ k. do a ← place p m; got (Calculates (calculates.One Not (W n) a)))  -- NOT 001:1389-1390
+      ∷ row 3 1 (λ k. do a ← place p m; got (Calculates (calculates.One Neg (W n) a)))  -- NEG 001:1391-1392
+      ∷ row 4 1 (λ k. do a ← place p m; got (Multiplies (Mulu (W n) a)))  -- MULU 000:1029-1032
+      ∷ row 5 1 (λ k. do a ← place p m; got (Multiplies (Mul (W n) a)))  -- MUL 000:1033-1036
+      ∷ row 6 1 (λ k. do a ← place p m; got (Multiplies (Divu (W n) a)))  -- DIVU 000:1047-1050
+      ∷ row 7 1 (λ k. do a ← place p m; got (Multiplies (Div (W n) a)))  -- DIV 000:1055-1058
       ∷ []) (regField m)
 
 -- FE and FF by the reg field: both begin with INC and DEC
 abbrev pub incAndDec : Prefixes → ℕ → Bool → List Row
 incAndDec p m w =
-    row 0 1 (λ k. do a ← place p m; got (Calculates (calculates.One Inc w a)))
-    ∷ row 1 1 (λ k. do a ← place p m; got (Calculates (calculates.One Dec w a)))
+    row 0 1 (λ k. do a ← place p m; got (Calculates (calculates.One Inc w a)))  -- INC 000:1014-1015
+    ∷ row 1 1 (λ k. do a ← place p m; got (Calculates (calculates.One Dec w a)))  -- DEC 000:1017-1018
     ∷ []
 
 unfoldable pub groupFE : Prefixes → Reading Instr
@@ -144,11 +145,11 @@ unfoldable pub groupFF : Prefixes → Reading Instr
 groupFF p = do
   m ← byte
   lookUp (incAndDec p m true ++ (
-      row 2 1 (λ k. do a ← place p m; got (Branches (CallTo a)))
-      ∷ row 3 1 (λ k. do a ← memory p m; got (Branches (CallFarAt a)))
-      ∷ row 4 1 (λ k. do a ← place p m; got (Branches (BrTo a)))
-      ∷ row 5 1 (λ k. do a ← memory p m; got (Branches (BrFarAt a)))
-      ∷ row 6 1 (λ k. do a ← place p m; got (Stacks (Push a)))
+      row 2 1 (λ k. do a ← place p m; got (Branches (CallTo a)))  -- CALL regptr16/memptr16 000:1241-1242
+      ∷ row 3 1 (λ k. do a ← memory p m; got (Branches (CallFarAt a)))  -- CALL memptr32 000:1244
+      ∷ row 4 1 (λ k. do a ← place p m; got (Branches (BrTo a)))  -- BR regptr16/memptr16 000:1279-1280
+      ∷ row 5 1 (λ k. do a ← memory p m; got (Branches (BrFarAt a)))  -- BR memptr32 000:1282
+      ∷ row 6 1 (λ k. do a ← place p m; got (Stacks (Push a)))  -- PUSH mem16 000:1254
       ∷ [])) (regField m)
 
 -- 8C and 8E: a reg field above 3 names no segment, and PS is not loaded
@@ -217,130 +218,130 @@ converts c n = got (Converts c)
 
 abbrev pub bytes00 : Prefixes → List Row
 bytes00 p =
-    sixCodes p 0x00 Add
-    ++ (row 0x06 1 (pushSegment inDs1)
-    ∷ row 0x07 1 (popSegment inDs1)
-    ∷ sixCodes p 0x08 Or)
-    ++ (row 0x0e 1 (pushSegment inPs)
-    ∷ row 0x0f 1 (λ n. do
+    sixCodes p 0x00 Add  -- ADD 000:978-983
+    ++ (row 0x06 1 (pushSegment inDs1)  -- PUSH DS1 001:1579
+    ∷ row 0x07 1 (popSegment inDs1)  -- POP DS1 001:1586
+    ∷ sixCodes p 0x08 Or)  -- OR 000:1102-1107
+    ++ (row 0x0e 1 (pushSegment inPs)  -- PUSH PS 001:1579
+    ∷ row 0x0f 1 (λ n. do  -- two bytes: SecondByte
       b ← byte
       lookUp (secondBytes p) b)
-    ∷ sixCodes p 0x10 Addc)
-    ++ (row 0x16 1 (pushSegment inSs)
-    ∷ row 0x17 1 (popSegment inSs)
-    ∷ sixCodes p 0x18 Subc)
-    ++ (row 0x1e 1 (pushSegment inDs0)
-    ∷ row 0x1f 1 (popSegment inDs0)
-    ∷ sixCodes p 0x20 And)
-    ++ (row 0x27 1 (converts Adj4a)
-    ∷ sixCodes p 0x28 Sub)
-    ++ (row 0x2f 1 (converts Adj4s)
-    ∷ sixCodes p 0x30 Xor)
-    ++ (row 0x37 1 (converts Adjba)
-    ∷ sixCodes p 0x38 Cmp)
-    ++ (row 0x3f 1 (converts Adjbs)
+    ∷ sixCodes p 0x10 Addc)  -- ADDC 000:984-989
+    ++ (row 0x16 1 (pushSegment inSs)  -- PUSH SS 001:1579
+    ∷ row 0x17 1 (popSegment inSs)  -- POP SS 001:1586
+    ∷ sixCodes p 0x18 Subc)  -- SUBC 000:996-1001
+    ++ (row 0x1e 1 (pushSegment inDs0)  -- PUSH DS0 001:1579
+    ∷ row 0x1f 1 (popSegment inDs0)  -- POP DS0 001:1586
+    ∷ sixCodes p 0x20 And)  -- AND 000:1096-1101
+    ++ (row 0x27 1 (converts Adj4a)  -- ADJ4A 000:1067, 01:57
+    ∷ sixCodes p 0x28 Sub)  -- SUB 000:990-995
+    ++ (row 0x2f 1 (converts Adj4s)  -- ADJ4S 000:1069, 01:57
+    ∷ sixCodes p 0x30 Xor)  -- XOR 000:1108-1113
+    ++ (row 0x37 1 (converts Adjba)  -- ADJBA 000:1066, 01:57
+    ∷ sixCodes p 0x38 Cmp)  -- CMP 000:1076-1081
+    ++ (row 0x3f 1 (converts Adjbs)  -- ADJBS 000:1068, 01:57
     ∷ [])
 
 abbrev pub bytes40 : Prefixes → List Row
 bytes40 p =
-    row 0x40 8 (λ reg. got (Calculates (calculates.One Inc true (Register reg))))
-    ∷ row 0x48 8 (λ reg. got (Calculates (calculates.One Dec true (Register reg))))
-    ∷ row 0x50 8 (λ reg. got (Stacks (Push (Register reg))))
-    ∷ row 0x58 8 (λ reg. got (Stacks (Pop (Register reg))))
-    ∷ row 0x60 1 (λ n. got (Stacks PushR))
-    ∷ row 0x61 1 (λ n. got (Stacks PopR))
-    ∷ row 0x62 1 (λ n. withMemory p (λ reg a. Interrupts (Chkind reg a)))
-    ∷ row 0x68 1 (λ n. withWord (λ v. Stacks (PushWord v)))
-    ∷ row 0x69 1 (λ n. withPlace p (λ reg a. withWord (λ v. Multiplies (MulWord reg a v))))
-    ∷ row 0x6a 1 (λ n. withShort (λ v. Stacks (PushByte v)))
-    ∷ row 0x6b 1 (λ n. withPlace p (λ reg a. withShort (λ v. Multiplies (MulByte reg a v))))
-    ∷ row 0x6c 2 (blocks p Inm)
-    ∷ row 0x6e 2 (blocks p Outm)
-    ∷ row 0x70 16 (λ n. withShort (λ disp. Tests (If n disp)))
+    row 0x40 8 (λ reg. got (Calculates (calculates.One Inc true (Register reg))))  -- INC reg16 000:1016
+    ∷ row 0x48 8 (λ reg. got (Calculates (calculates.One Dec true (Register reg))))  -- DEC reg16 000:1019
+    ∷ row 0x50 8 (λ reg. got (Stacks (Push (Register reg))))  -- PUSH reg16 001:1578
+    ∷ row 0x58 8 (λ reg. got (Stacks (Pop (Register reg))))  -- POP reg16 001:1585
+    ∷ row 0x60 1 (λ n. got (Stacks PushR))  -- PUSH R 001:1581
+    ∷ row 0x61 1 (λ n. got (Stacks PopR))  -- POP R 001:1588
+    ∷ row 0x62 1 (λ n. withMemory p (λ reg a. Interrupts (Chkind reg a)))  -- CHKIND 001:1639
+    ∷ row 0x68 1 (λ n. withWord (λ v. Stacks (PushWord v)))  -- PUSH imm16 001:1583
+    ∷ row 0x69 1 (λ n. withPlace p (λ reg a. withWord (λ v. Multiplies (MulWord reg a v))))  -- MUL reg16,reg16'/mem16,imm16 000:1039-1040
+    ∷ row 0x6a 1 (λ n. withShort (λ v. Stacks (PushByte v)))  -- PUSH imm8 001:1582
+    ∷ row 0x6b 1 (λ n. withPlace p (λ reg a. withShort (λ v. Multiplies (MulByte reg a v))))  -- MUL reg16,reg16'/mem16,imm8 000:1037-1038
+    ∷ row 0x6c 2 (blocks p Inm)  -- INM 000:970
+    ∷ row 0x6e 2 (blocks p Outm)  -- OUTM 000:971
+    ∷ row 0x70 16 (λ n. withShort (λ disp. Tests (If n disp)))  -- BV to BGT 000:1287-1302
     ∷ []
 
 abbrev pub bytes80 : Prefixes → List Row
 bytes80 p =
-    row 0x80 4 (withImmediate p)
-    ∷ row 0x84 2 (λ n. withPlace p (λ reg a. got (Calculates (calculates.Test (W n) a (Held (Register reg))))))
-    ∷ row 0x86 2 (λ n. withPlace p (λ reg a. got (Transfers (Xch (W n) reg a))))
-    ∷ row 0x88 2 (λ n. withPlace p (λ reg a. got (Transfers (Mov (W n) a (Held (Register reg))))))
-    ∷ row 0x8a 2 (λ n. withPlace p (λ reg a. got (Transfers (Mov (W n) (Register reg) (Held a)))))
-    ∷ row 0x8c 1 (λ n. fromSegment p)
-    ∷ row 0x8d 1 (λ n. withMemory p (λ reg a. Transfers (Ldea reg a)))
-    ∷ row 0x8e 1 (λ n. toSegment p)
-    ∷ row 0x8f 1 (λ n. withPlain p (λ to. Stacks (Pop to)))
-    ∷ row 0x90 1 (λ n. got (Controls Nop))
-    ∷ row 0x91 7 (λ n. got (Transfers (Xch true (n + 1) (Register AW))))
-    ∷ row 0x98 1 (converts Cvtbw)
-    ∷ row 0x99 1 (converts Cvtwl)
-    ∷ row 0x9a 1 (λ n. withFar (λ ps pc. Branches (CallFar ps pc)))
-    ∷ row 0x9c 1 (λ n. got (Stacks PushPsw))
-    ∷ row 0x9d 1 (λ n. got (Stacks PopPsw))
-    ∷ row 0x9e 1 (λ n. got (Transfers PswFromAh))
-    ∷ row 0x9f 1 (λ n. got (Transfers AhFromPsw))
-    ∷ row 0xa0 2 (λ n. withWord (λ offset. Transfers (LoadAcc (W n) (direct p offset))))
-    ∷ row 0xa2 2 (λ n. withWord (λ offset. Transfers (StoreAcc (W n) (direct p offset))))
-    ∷ row 0xa4 2 (blocks p Movbk)
-    ∷ row 0xa6 2 (blocks p Cmpbk)
-    ∷ row 0xa8 2 (λ n. withAcc (λ v. Calculates (calculates.Test (W n) (Register AW) v)) (W n))
-    ∷ row 0xaa 2 (blocks p Stm)
-    ∷ row 0xac 2 (blocks p Ldm)
-    ∷ row 0xae 2 (blocks p Cmpm)
-    ∷ row 0xb0 8 (λ reg. withByte (λ v. Transfers (Mov false (Register reg) (Immediate v))))
-    ∷ row 0xb8 8 (λ reg. withWord (λ v. Transfers (Mov true (Register reg) (Immediate v))))
+    row 0x80 4 (withImmediate p)  -- reg/mem,imm of ADD to CMP 000:981-982 and its like, 01:50
+    ∷ row 0x84 2 (λ n. withPlace p (λ reg a. got (Calculates (calculates.Test (W n) a (Held (Register reg))))))  -- TEST 000:1091-1092
+    ∷ row 0x86 2 (λ n. withPlace p (λ reg a. got (Transfers (Xch (W n) reg a))))  -- XCH reg,reg'/mem 001:1252-1253
+    ∷ row 0x88 2 (λ n. withPlace p (λ reg a. got (Transfers (Mov (W n) a (Held (Register reg))))))  -- MOV mem,reg 001:1236
+    ∷ row 0x8a 2 (λ n. withPlace p (λ reg a. got (Transfers (Mov (W n) (Register reg) (Held a)))))  -- MOV reg,reg'/mem 001:1235, 1237
+    ∷ row 0x8c 1 (λ n. fromSegment p)  -- MOV reg16/mem16,sreg 001:1244-1245
+    ∷ row 0x8d 1 (λ n. withMemory p (λ reg a. Transfers (Ldea reg a)))  -- LDEA 001:1250
+    ∷ row 0x8e 1 (λ n. toSegment p)  -- MOV sreg,reg16/mem16 001:1242-1243
+    ∷ row 0x8f 1 (λ n. withPlain p (λ to. Stacks (Pop to)))  -- POP mem16 000:1261
+    ∷ row 0x90 1 (λ n. got (Controls Nop))  -- NOP 001:1658
+    ∷ row 0x91 7 (λ n. got (Transfers (Xch true (n + 1) (Register AW))))  -- XCH AW,reg16 001:1254
+    ∷ row 0x98 1 (converts Cvtbw)  -- CVTBW 001:1381
+    ∷ row 0x99 1 (converts Cvtwl)  -- CVTWL 001:1382
+    ∷ row 0x9a 1 (λ n. withFar (λ ps pc. Branches (CallFar ps pc)))  -- CALL far-proc 001:1567
+    ∷ row 0x9c 1 (λ n. got (Stacks PushPsw))  -- PUSH PSW 000:1257
+    ∷ row 0x9d 1 (λ n. got (Stacks PopPsw))  -- POP PSW 000:1264
+    ∷ row 0x9e 1 (λ n. got (Transfers PswFromAh))  -- MOV PSW,AH 000:931
+    ∷ row 0x9f 1 (λ n. got (Transfers AhFromPsw))  -- MOV AH,PSW 000:930
+    ∷ row 0xa0 2 (λ n. withWord (λ offset. Transfers (LoadAcc (W n) (direct p offset))))  -- MOV acc,dmem 001:1240
+    ∷ row 0xa2 2 (λ n. withWord (λ offset. Transfers (StoreAcc (W n) (direct p offset))))  -- MOV dmem,acc 001:1241
+    ∷ row 0xa4 2 (blocks p Movbk)  -- MOVBK 000:948
+    ∷ row 0xa6 2 (blocks p Cmpbk)  -- CMPBK 000:949
+    ∷ row 0xa8 2 (λ n. withAcc (λ v. Calculates (calculates.Test (W n) (Register AW) v)) (W n))  -- TEST acc,imm 000:1095
+    ∷ row 0xaa 2 (blocks p Stm)  -- STM 000:952
+    ∷ row 0xac 2 (blocks p Ldm)  -- LDM 000:951
+    ∷ row 0xae 2 (blocks p Cmpm)  -- CMPM 000:950
+    ∷ row 0xb0 8 (λ reg. withByte (λ v. Transfers (Mov false (Register reg) (Immediate v))))  -- MOV reg8,imm8 001:1239
+    ∷ row 0xb8 8 (λ reg. withWord (λ v. Transfers (Mov true (Register reg) (Immediate v))))  -- MOV reg16,imm16 001:1239
     ∷ []
 
 abbrev pub bytesC0 : Prefixes → List Row
 bytesC0 p =
-    row 0xc0 2 (shiftGroup p withCounted)
-    ∷ row 0xc2 1 (λ n. withWord (λ v. Branches (RetPop v)))
-    ∷ row 0xc3 1 (λ n. got (Branches Ret))
-    ∷ row 0xc4 1 (λ n. withMemory p (λ reg a. Transfers (LoadPointer inDs1 reg a)))
-    ∷ row 0xc5 1 (λ n. withMemory p (λ reg a. Transfers (LoadPointer inDs0 reg a)))
-    ∷ row 0xc6 2 (λ n. do
+    row 0xc0 2 (shiftGroup p withCounted)  -- shifts by imm8 001:1498-1499 and their like
+    ∷ row 0xc2 1 (λ n. withWord (λ v. Branches (RetPop v)))  -- RET pop-value 001:1570
+    ∷ row 0xc3 1 (λ n. got (Branches Ret))  -- RET 001:1569
+    ∷ row 0xc4 1 (λ n. withMemory p (λ reg a. Transfers (LoadPointer inDs1 reg a)))  -- MOV DS1,reg16,mem32 001:1247
+    ∷ row 0xc5 1 (λ n. withMemory p (λ reg a. Transfers (LoadPointer inDs0 reg a)))  -- MOV DS0,reg16,mem32 001:1246
+    ∷ row 0xc6 2 (λ n. do  -- MOV mem,imm 001:1238
       a ← plainPlace p
       v ← immediate (W n)
       got (Transfers (Mov (W n) a (Immediate v))))
-    ∷ row 0xc8 1 (λ n. do
+    ∷ row 0xc8 1 (λ n. do  -- PREPARE 001:1589
       size ← word
       level ← byte
       got (Stacks (Prepare size level)))
-    ∷ row 0xc9 1 (λ n. got (Stacks Dispose))
-    ∷ row 0xca 1 (λ n. withWord (λ v. Branches (RetFarPop v)))
-    ∷ row 0xcb 1 (λ n. got (Branches RetFar))
-    ∷ row 0xcc 1 (λ n. got (Interrupts Brk3))
-    ∷ row 0xcd 1 (λ n. withByte (λ v. Interrupts (Brk v)))
-    ∷ row 0xce 1 (λ n. got (Interrupts Brkv))
-    ∷ row 0xcf 1 (λ n. got (Interrupts Reti))
-    ∷ row 0xd0 2 (shiftGroup p (got One))
-    ∷ row 0xd2 2 (shiftGroup p (got (Counted InCl)))
-    ∷ row 0xd4 1 (λ n. afterTen Cvtbd)
-    ∷ row 0xd5 1 (λ n. afterTen Cvtdb)
-    ∷ row 0xd7 1 (λ n. got (Transfers (Trans (segOr (p .seg) inDs0))))
-    ∷ row 0xe0 1 (λ n. withShort (λ disp. Tests (Dbnzne disp)))
-    ∷ row 0xe1 1 (λ n. withShort (λ disp. Tests (Dbnze disp)))
-    ∷ row 0xe2 1 (λ n. withShort (λ disp. Tests (Dbnz disp)))
-    ∷ row 0xe3 1 (λ n. withShort (λ disp. Tests (Bcwz disp)))
-    ∷ row 0xe4 2 (λ n. withByte (λ v. Ports (In (W n) (Numbered v))))
-    ∷ row 0xe6 2 (λ n. withByte (λ v. Ports (Out (W n) (Numbered v))))
-    ∷ row 0xe8 1 (λ n. withWord (λ disp. Branches (CallNear disp)))
-    ∷ row 0xe9 1 (λ n. withWord (λ disp. Branches (BrNear disp)))
-    ∷ row 0xea 1 (λ n. withFar (λ ps pc. Branches (BrFar ps pc)))
-    ∷ row 0xeb 1 (λ n. withShort (λ disp. Branches (BrShort disp)))
-    ∷ row 0xec 2 (λ n. got (Ports (In (W n) InDw)))
-    ∷ row 0xee 2 (λ n. got (Ports (Out (W n) InDw)))
-    ∷ row 0xf4 1 (λ n. got (Controls Halt))
-    ∷ row 0xf5 1 (λ n. got (Controls NotCy))
-    ∷ row 0xf6 2 (groupF6 p)
-    ∷ row 0xf8 1 (λ n. got (Controls ClrCy))
-    ∷ row 0xf9 1 (λ n. got (Controls SetCy))
-    ∷ row 0xfa 1 (λ n. got (Controls Di))
-    ∷ row 0xfb 1 (λ n. got (Controls Ei))
-    ∷ row 0xfc 1 (λ n. got (Controls ClrDir))
-    ∷ row 0xfd 1 (λ n. got (Controls SetDir))
-    ∷ row 0xfe 1 (λ n. groupFE p)
-    ∷ row 0xff 1 (λ n. groupFF p)
+    ∷ row 0xc9 1 (λ n. got (Stacks Dispose))  -- DISPOSE 001:1590
+    ∷ row 0xca 1 (λ n. withWord (λ v. Branches (RetFarPop v)))  -- far RET pop-value 000:1248
+    ∷ row 0xcb 1 (λ n. got (Branches RetFar))  -- far RET 000:1247
+    ∷ row 0xcc 1 (λ n. got (Interrupts Brk3))  -- BRK 3 001:1634
+    ∷ row 0xcd 1 (λ n. withByte (λ v. Interrupts (Brk v)))  -- BRK imm8 000:1314
+    ∷ row 0xce 1 (λ n. got (Interrupts Brkv))  -- BRKV 001:1636
+    ∷ row 0xcf 1 (λ n. got (Interrupts Reti))  -- RETI 001:1637
+    ∷ row 0xd0 2 (shiftGroup p (got One))  -- shifts by 1 001:1494-1495 and their like
+    ∷ row 0xd2 2 (shiftGroup p (got (Counted InCl)))  -- shifts by CL 001:1496-1497 and their like
+    ∷ row 0xd4 1 (λ n. afterTen Cvtbd)  -- CVTBD 000:1071
+    ∷ row 0xd5 1 (λ n. afterTen Cvtdb)  -- CVTDB 000:1072
+    ∷ row 0xd7 1 (λ n. got (Transfers (Trans (segOr (p .seg) inDs0))))  -- TRANS 001:1251
+    ∷ row 0xe0 1 (λ n. withShort (λ disp. Tests (Dbnzne disp)))  -- DBNZNE 000:1303
+    ∷ row 0xe1 1 (λ n. withShort (λ disp. Tests (Dbnze disp)))  -- DBNZE 000:1304
+    ∷ row 0xe2 1 (λ n. withShort (λ disp. Tests (Dbnz disp)))  -- DBNZ 001:1625
+    ∷ row 0xe3 1 (λ n. withShort (λ disp. Tests (Bcwz disp)))  -- BCWZ 001:1626
+    ∷ row 0xe4 2 (λ n. withByte (λ v. Ports (In (W n) (Numbered v))))  -- IN acc,imm8 001:1284
+    ∷ row 0xe6 2 (λ n. withByte (λ v. Ports (Out (W n) (Numbered v))))  -- OUT imm8,acc 001:1286
+    ∷ row 0xe8 1 (λ n. withWord (λ disp. Branches (CallNear disp)))  -- CALL near-proc 001:1564
+    ∷ row 0xe9 1 (λ n. withWord (λ disp. Branches (BrNear disp)))  -- BR near-label 001:1591
+    ∷ row 0xea 1 (λ n. withFar (λ ps pc. Branches (BrFar ps pc)))  -- BR far-label 001:1595
+    ∷ row 0xeb 1 (λ n. withShort (λ disp. Branches (BrShort disp)))  -- BR short-label 001:1592
+    ∷ row 0xec 2 (λ n. got (Ports (In (W n) InDw)))  -- IN acc,DW 001:1285
+    ∷ row 0xee 2 (λ n. got (Ports (Out (W n) InDw)))  -- OUT DW,acc 001:1287
+    ∷ row 0xf4 1 (λ n. got (Controls Halt))  -- HALT 001:1649
+    ∷ row 0xf5 1 (λ n. got (Controls NotCy))  -- NOT1 CY 001:1462
+    ∷ row 0xf6 2 (groupF6 p)  -- TEST, NOT, NEG, MULU, MUL, DIVU, DIV: groupF6
+    ∷ row 0xf8 1 (λ n. got (Controls ClrCy))  -- CLR1 CY 001:1487
+    ∷ row 0xf9 1 (λ n. got (Controls SetCy))  -- SET1 CY 001:1489
+    ∷ row 0xfa 1 (λ n. got (Controls Di))  -- DI 001:1651
+    ∷ row 0xfb 1 (λ n. got (Controls Ei))  -- EI 001:1652
+    ∷ row 0xfc 1 (λ n. got (Controls ClrDir))  -- CLR1 DIR 001:1488
+    ∷ row 0xfd 1 (λ n. got (Controls SetDir))  -- SET1 DIR 001:1490
+    ∷ row 0xfe 1 (λ n. groupFE p)  -- INC, DEC of bytes: groupFE
+    ∷ row 0xff 1 (λ n. groupFF p)  -- INC, DEC, CALL, BR, PUSH of words: groupFF
     ∷ []
 
 abbrev pub firstBytes : Prefixes → List Row

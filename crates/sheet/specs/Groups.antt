@@ -1,4 +1,5 @@
 -- The groups that compute and the groups that move, as instructions.
+-- no row of the sheet: the sorting is for the code, which matches on at most 16 cases at a time
 use mathlib.Core.Bool.{Bool}
 use Rattle.sheet.specs.declared.Place.{Place}
 use Rattle.sheet.specs.declared.Places.{Places}

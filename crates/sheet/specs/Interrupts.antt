@@ -1,4 +1,5 @@
 -- BRK, BRKV, RETI, CHKIND. Each hands on whether it took a trap.
+-- 001:855-879, 1634-1639; 000:1313-1318; 01:27, 61
 use Prim.Native.Nat.{ℕ}
 use mathlib.Core.Bool.{Bool, true, false, _||_}
 use lib.Signed.{ltZ}

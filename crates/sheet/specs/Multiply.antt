@@ -1,4 +1,5 @@
 -- MULU, MUL, DIVU, DIV.
+-- 001:1341-1370; 000:1029-1058; 01:56
 use mathlib.Core.Bool.{Bool, true, false, not, _&&_}
 use Prim.Native.Nat.{ℕ, _+_, _*_, _/_, _%_}
 use lib.Dec.{eqb, ltb}

@@ -1,4 +1,5 @@
 -- Where an operand stands, and how it is read and written.
+-- 01:16, 18
 use Prim.Native.Nat.{ℕ, _+_, _%_}
 use mathlib.Core.Bool.{Bool, true, false}
 use mathlib.Core.List.{List, [], _∷_}

@@ -1,4 +1,5 @@
 -- Instruction bytes, read one after the other: one decoder for the engine and for whoever else reads instructions.
+-- 01:23, 48
 use Prim.Native.Nat.{ℕ, _+_, _*_}
 use mathlib.Core.Bool.{Bool}
 use Rattle.sheet.specs.Width.{pick, extend}

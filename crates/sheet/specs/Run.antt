@@ -1,4 +1,5 @@
 -- A run of steps.
+-- 01:31, 48
 use Prim.Native.Nat.{ℕ, zero, suc}
 use mathlib.Core.List.{List, [], _++_}
 use Rattle.sheet.specs.declared.Bus.{Bus}

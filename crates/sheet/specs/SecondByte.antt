@@ -1,4 +1,5 @@
 -- The codes after 0F: bits, decimal strings and digits, bit fields.
+-- 001:1276-1283, 1322-1328, 1440-1482 by their codes, 000:958-965, 1007-1013, 1120-1135 where these cannot be read; 01:50
 use Prim.Native.Nat.{ℕ}
 use mathlib.Core.Bool.{_&&_}
 use mathlib.Core.List.{List, [], _∷_}
@@ -57,21 +58,21 @@ fieldGiven k = do
 
 abbrev pub secondBytes : Prefixes → List Row
 secondBytes p =
-    row 0x10 2 (bitInCl p Test1)
-    ∷ row 0x12 2 (bitInCl p Clr1)
-    ∷ row 0x14 2 (bitInCl p Set1)
-    ∷ row 0x16 2 (bitInCl p Not1)
-    ∷ row 0x18 2 (bitGiven p Test1)
-    ∷ row 0x1a 2 (bitGiven p Clr1)
-    ∷ row 0x1c 2 (bitGiven p Set1)
-    ∷ row 0x1e 2 (bitGiven p Not1)
-    ∷ row 0x20 1 (λ n. got (Decimals (Add4s (segOr (p .seg) inDs0))))
-    ∷ row 0x22 1 (λ n. got (Decimals (Sub4s (segOr (p .seg) inDs0))))
-    ∷ row 0x26 1 (λ n. got (Decimals (Cmp4s (segOr (p .seg) inDs0))))
-    ∷ row 0x28 1 (λ n. withPlain p (λ to. Decimals (Rol4 to)))
-    ∷ row 0x2a 1 (λ n. withPlain p (λ to. Decimals (Ror4 to)))
-    ∷ row 0x31 1 (λ n. fieldInRegister (λ o l. got (Fields (Ins o l))))
-    ∷ row 0x33 1 (λ n. fieldInRegister (λ o l. got (Fields (Ext (segOr (p .seg) inDs0) o l))))
-    ∷ row 0x39 1 (λ n. fieldGiven (λ o l. got (Fields (Ins o l))))
-    ∷ row 0x3b 1 (λ n. fieldGiven (λ o l. got (Fields (Ext (segOr (p .seg) inDs0) o l))))
+    row 0x10 2 (bitInCl p Test1)  -- TEST1 ..,CL 001:1440-1443
+    ∷ row 0x12 2 (bitInCl p Clr1)  -- CLR1 ..,CL 001:1467-1470
+    ∷ row 0x14 2 (bitInCl p Set1)  -- SET1 ..,CL 001:1475-1478
+    ∷ row 0x16 2 (bitInCl p Not1)  -- NOT1 ..,CL 001:1448-1451
+    ∷ row 0x18 2 (bitGiven p Test1)  -- TEST1 ..,imm 001:1444-1447
+    ∷ row 0x1a 2 (bitGiven p Clr1)  -- CLR1 ..,imm 001:1471-1474
+    ∷ row 0x1c 2 (bitGiven p Set1)  -- SET1 ..,imm 001:1479-1482
+    ∷ row 0x1e 2 (bitGiven p Not1)  -- NOT1 ..,imm 001:1452-1455
+    ∷ row 0x20 1 (λ n. got (Decimals (Add4s (segOr (p .seg) inDs0))))  -- ADD4S 000:1007
+    ∷ row 0x22 1 (λ n. got (Decimals (Sub4s (segOr (p .seg) inDs0))))  -- SUB4S 000:1008
+    ∷ row 0x26 1 (λ n. got (Decimals (Cmp4s (segOr (p .seg) inDs0))))  -- CMP4S 000:1009
+    ∷ row 0x28 1 (λ n. withPlain p (λ to. Decimals (Rol4 to)))  -- ROL4 000:1010-1011
+    ∷ row 0x2a 1 (λ n. withPlain p (λ to. Decimals (Ror4 to)))  -- ROR4 000:1012-1013
+    ∷ row 0x31 1 (λ n. fieldInRegister (λ o l. got (Fields (Ins o l))))  -- INS reg8,reg8' 000:958-959
+    ∷ row 0x33 1 (λ n. fieldInRegister (λ o l. got (Fields (Ext (segOr (p .seg) inDs0) o l))))  -- EXT reg8,reg8' 000:962-963
+    ∷ row 0x39 1 (λ n. fieldGiven (λ o l. got (Fields (Ins o l))))  -- INS reg8,imm4 000:960-961
+    ∷ row 0x3b 1 (λ n. fieldGiven (λ o l. got (Fields (Ext (segOr (p .seg) inDs0) o l))))  -- EXT reg8,imm4 000:964-965
     ∷ []

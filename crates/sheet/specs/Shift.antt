@@ -1,4 +1,5 @@
 -- Shifts and rotates: one place, and any number of places.
+-- 001:1494-1556; 000:1153-1233; 01:55
 use mathlib.Core.Bool.{Bool, true, false, not, Bool·beq}
 use Prim.Native.Nat.{ℕ, zero, suc, _+_, _*_, _/_}
 use Rattle.sheet.specs.declared.Shift.{Shift}

@@ -1,4 +1,5 @@
 -- PUSH, POP, PREPARE, DISPOSE.
+-- 001:710-853, 1577-1590; 000:1253-1267; 01:61-62
 use Prim.Native.Nat.{ℕ, zero, suc}
 use mathlib.Core.Bool.{true}
 use Rattle.sheet.specs.declared.Place.{Place}

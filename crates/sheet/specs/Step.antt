@@ -1,4 +1,5 @@
 -- One step, an interrupt call, and reset; what a step and an interrupt report.
+-- 01:15, 23-29, 35-48
 use Prim.Native.Nat.{ℕ, _+_}
 use mathlib.Core.Bool.{Bool, true, false, not, _&&_}
 use mathlib.Core.List.{List, []}

@@ -1,4 +1,5 @@
 -- Words on the stack, far jumps, and traps: what BRK, a division, CHKIND, the single step and an interrupt call do alike.
+-- 001:966-1026; 01:27
 use Prim.Native.Nat.{ℕ, _+_, _*_}
 use mathlib.Core.Bool.{Bool, true, false}
 use Rattle.sheet.specs.Width.{add16, sub16}

@@ -1,15 +1,16 @@
 use Rattle.mnemonics.specs.Mnemonics.{ofSource}
 use borrow.Author.Needs.{needs}
+use Rattle.laws.proofs.Known.{known-second}
 use Rattle.mnemonics.proofs.of_source.Statement.{statement}
 use Rattle.mnemonics.proofs.of_source.Tie as tie
 
 returns : tie.Need-returns
 unfolding ofSource
-returns c = cc
+returns c = search (known-second ofSource, needs)
 
 returns-2 : tie.Need-returns-2
 unfolding ofSource
-returns-2 c = cc
+returns-2 c = search (known-second ofSource, needs)
 
 pub of-source-spec : {M : Type 1} → statement M
 of-source-spec =
