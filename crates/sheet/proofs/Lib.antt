@@ -9,4 +9,5 @@ pub mod TableLaws
 pub mod SmallTable
 pub mod Forms
 pub mod StepLaws
+pub mod MarkLaws
 pub mod BlockLaws

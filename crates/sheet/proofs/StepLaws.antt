@@ -16,7 +16,7 @@ use Rattle.sheet.specs.World.{World, pswOf}
 use Rattle.sheet.specs.Handler.{Event, Outcome, refused, done, runBy}
 use Rattle.sheet.specs.Reading.{Read, known, unknown, scan}
 use Rattle.sheet.specs.FirstByte.{instruction}
-use Rattle.sheet.specs.Step.{fits, sound, refusal, source, stepping, counted, decoded, awake, stepBy, interrupting, interruptBy}
+use Rattle.sheet.specs.Step.{fits, placesGood, sound, refusal, source, stepping, begun, decoded, awake, stepBy, interrupting, interruptBy}
 use Rattle.sheet.proofs.Lent.{Leaves, leaves, Sound, Good, stays-good}
 
 -- an outcome that is refused is not done
@@ -32,7 +32,7 @@ pub record Stepped (u : ℕ → Choice) (w v : World) (t : List Event) : Type 0 
   pub good : sound w ≡ true
   pub up : w .state .marks .halted ≡ false
   pub read : scan instruction (source w) 0 ≡ known instr size
-  pub ran : runBy u (stepping instr size) (counted w) ≡ done tt v t
+  pub ran : runBy u (stepping instr size) (begun instr w) ≡ done tt v t
 
 pub begins : (u : ℕ → Choice) (w v : World) (t : List Event) → stepBy u w ≡ done tt v t → Stepped u w v t
 unfolding stepBy awake decoded
@@ -49,20 +49,22 @@ begins u w v t e = go (fits w) (sound w) (w .state .marks .halted) (scan instruc
 pub record Interrupted (u : ℕ → Choice) (vector : ℕ) (maskable : Bool) (w v : World) (t : List Event) : Type 0 where
   pub fit : fits w ≡ true
   pub good : sound w ≡ true
+  pub unloaded : w .state .marks .loaded ≡ false
   pub unmasked : (maskable && not (flagOf (pswOf (w .state)) IE)) ≡ false
   pub ran : runBy u (interrupting vector) w ≡ done tt v t
 
 pub enters : (u : ℕ → Choice) (vector : ℕ) (maskable : Bool) (w v : World) (t : List Event) → interruptBy u vector maskable w ≡ done tt v t
     → Interrupted u vector maskable w v t
 unfolding interruptBy
-enters u vector maskable w v t e = go (fits w) (sound w) (maskable && not (flagOf (pswOf (w .state)) IE)) refl refl refl e
+enters u vector maskable w v t e = go (fits w) (sound w) (w .state .marks .loaded) (maskable && not (flagOf (pswOf (w .state)) IE)) refl refl refl refl e
   where
-    go : (f s m : Bool) → fits w ≡ f → sound w ≡ s → (maskable && not (flagOf (pswOf (w .state)) IE)) ≡ m
-        → pick f (pick s (pick m (refusal 7) (runBy u (interrupting vector) w)) (refusal 2)) (refusal 1) ≡ done tt v t → Interrupted u vector maskable w v t
-    go true true false a b c q = record { fit = a; good = b; unmasked = c; ran = q }
-    go true true true a b c q = absurd (no-done q)
-    go true false m a b c q = absurd (no-done q)
-    go false s m a b c q = absurd (no-done q)
+    go : (f s l m : Bool) → fits w ≡ f → sound w ≡ s → w .state .marks .loaded ≡ l → (maskable && not (flagOf (pswOf (w .state)) IE)) ≡ m
+        → pick f (pick s (pick l (refusal 13) (pick m (refusal 7) (runBy u (interrupting vector) w))) (refusal 2)) (refusal 1) ≡ done tt v t → Interrupted u vector maskable w v t
+    go true true false false a b c d q = record { fit = a; good = b; unloaded = c; unmasked = d; ran = q }
+    go true true false true a b c d q = absurd (no-done q)
+    go true true true m a b c d q = absurd (no-done q)
+    go true false l m a b c d q = absurd (no-done q)
+    go false s l m a b c d q = absurd (no-done q)
 
 -- ---- what is left
 
@@ -71,13 +73,14 @@ pub sound-is : (w : World) → length (w .state .file) ≡ 14 → sound w ≡ tr
 unfolding sound
 sound-is w n e =
     let (a, e₁) = and-eq-true-iff (fixedOf (pswOf (w .state))) _ .0 e in
-    let (b, e₂) = and-eq-true-iff (leb (w .state .progress .tape) (length (w .tape))) _ .0 e₁ in
+    let (g, m) = and-eq-true-iff (placesGood (w .state) (w .tape) (w .log)) _ .0 e₁ in
+    let (b, e₂) = and-eq-true-iff (leb (w .state .progress .tape) (length (w .tape))) _ .0 g in
     let (c, d) = and-eq-true-iff (leb (w .state .progress .log) (length (w .log))) _ .0 e₂ in
     record { whole = n; fixed = a; tape-in = leb-true _ _ b; log-in = leb-true _ _ c; count-in = leb-true _ _ d }
 
-pub counted-sound : (w : World) → Sound w → Sound (counted w)
-unfolding counted
-counted-sound w s = record { whole = s .whole; fixed = s .fixed; tape-in = s .tape-in; log-in = s .log-in; count-in = min-le-right (w .state .progress .count + 1) (rule .ceiling) }
+pub begun-sound : (i : Instr) (w : World) → Sound w → Sound (begun i w)
+unfolding begun
+begun-sound i w s = record { whole = s .whole; fixed = s .fixed; tape-in = s .tape-in; log-in = s .log-in; count-in = min-le-right (w .state .progress .count + 1) (rule .ceiling) }
 
 good-of : {w v : World} {t : List Event} → Leaves {A = Unit {0}} (Good w) (done tt v t) → Good w v
 good-of (leaves g) = g
@@ -85,11 +88,11 @@ good-of (leaves g) = g
 -- an accepted call hands on a sound state and the same lent buffers
 module _ (u : ℕ → Choice) (w v : World) (t : List Event) (n : length (w .state .file) ≡ 14) where
   pub step-leaves : stepBy u w ≡ done tt v t → Good w v
-  unfolding counted
+  unfolding begun
   step-leaves e =
       let a = begins u w v t e in
-      let s = counted-sound w (sound-is w n (a .good)) in
-      let g = good-of (rw (a .ran) at (stays-good (stepping (a .instr) (a .size)) u (counted w) s)) in
+      let s = begun-sound (a .instr) w (sound-is w n (a .good)) in
+      let g = good-of (rw (a .ran) at (stays-good (stepping (a .instr) (a .size)) u (begun (a .instr) w) s)) in
       record { lent = record { ram-long = g .lent .ram-long; rom-same = g .lent .rom-same; tape-same = g .lent .tape-same; log-long = g .lent .log-long }; sound = g .sound }
 
   pub interrupt-leaves : (vector : ℕ) (maskable : Bool) → interruptBy u vector maskable w ≡ done tt v t → Good w v

@@ -1,7 +1,7 @@
 -- PUSH, POP, PREPARE, DISPOSE.
 -- 001:710-853, 1577-1590; 000:1253-1267; 01:61-62
 use Prim.Native.Nat.{ℕ, zero, suc}
-use mathlib.Core.Bool.{true}
+use mathlib.Core.Bool.{Bool, true, false}
 use Rattle.sheet.specs.declared.Place.{Place}
 use Rattle.sheet.specs.declared.Place.the-variants.{Register, Memory}
 use Rattle.sheet.specs.declared.Stack.{Stack}
@@ -113,3 +113,18 @@ stack PopPsw = popPsw
 stack PopR = popR
 stack (Prepare size level) = prepare size level
 stack Dispose = dispose
+
+-- POP into a segment register (02 f)
+unfoldable pub popIn : Stack → Bool
+popIn (Push from) = false
+popIn (PushByte v) = false
+popIn (PushWord v) = false
+popIn (PushSegment seg) = false
+popIn PushPsw = false
+popIn PushR = false
+popIn (Pop to) = false
+popIn (PopSegment seg) = true
+popIn PopPsw = false
+popIn PopR = false
+popIn (Prepare size level) = false
+popIn Dispose = false

@@ -1,24 +1,30 @@
 -- One step, an interrupt call, and reset; what a step and an interrupt report.
 -- 01:15, 23-29, 35-48
 use Prim.Native.Nat.{ℕ, _+_}
-use mathlib.Core.Bool.{Bool, true, false, not, _&&_}
+use mathlib.Core.Bool.{Bool, true, false, not, _&&_, _||_}
 use mathlib.Core.List.{List, []}
 use lib.ListN.{length, replicate, set}
 use lib.Dec.{leb}
 use Rattle.sheet.specs.declared.State.{State}
+use Rattle.sheet.specs.declared.Marks.{Marks}
+use Rattle.sheet.specs.declared.Move.{Move}
+use Rattle.sheet.specs.declared.Move.the-variants.{Transfers, Stacks, Branches, Tests}
 use Rattle.sheet.specs.declared.Instr.{Instr}
+use Rattle.sheet.specs.declared.Instr.the-variants.{Computes, Moves, Multiplies, Interrupts, Blocks, Ports, Controls}
 use Rattle.sheet.specs.Width.{pick, add16}
 use Rattle.sheet.specs.Psw.{BRK, IE, Choice, flagOf, fixedOf}
 use Rattle.sheet.specs.Registers.{PS, PC, PSW, fileOf}
 use Rattle.sheet.specs.Memory.{physical, byteAt}
 use Rattle.sheet.specs.Log.{rule, risen}
-use Rattle.sheet.specs.World.{World, withState, stateOf, progressOf, pswOf, withCount}
+use Rattle.sheet.specs.World.{World, withState, stateOf, progressOf, pswOf, withCount, withMarks, marksOf, markLoaded}
 use Rattle.sheet.specs.Act.{Act, pure, _>>=_, _>>_, flag, halted}
 use Rattle.sheet.specs.Handler.{Outcome, refused, runBy, kept}
 use Rattle.sheet.specs.Contract.{seen, Report, reportOf}
 use Rattle.sheet.specs.Reading.{Read, known, unknown, scan}
 use Rattle.sheet.specs.FirstByte.{instruction}
 use Rattle.sheet.specs.Traps.{trap}
+use Rattle.sheet.specs.Transfer.{movIn}
+use Rattle.sheet.specs.Stack.{popIn}
 use Rattle.sheet.specs.Execute.{execute}
 
 -- ---- what is checked first
@@ -31,9 +37,13 @@ fits w = leb (length (w .ram) + length (w .rom)) 1048576
 abbrev pub placesGood : State → List ℕ → List ℕ → Bool
 placesGood s tape log = leb (s .progress .tape) (length tape) && (leb (s .progress .log) (length log) && leb (s .progress .count) (rule .ceiling))
 
--- number 2 is given where this fails: fixed bits of PSW, places, count
+-- a machine halts after no segment load
+abbrev pub marksGood : Marks → Bool
+marksGood m = not (m .halted && m .loaded)
+
+-- number 2 is given where this fails: fixed bits of PSW, places, count, marks
 unfoldable pub sound : World → Bool
-sound w = fixedOf (pswOf (w .state)) && placesGood (w .state) (w .tape) (w .log)
+sound w = fixedOf (pswOf (w .state)) && (placesGood (w .state) (w .tape) (w .log) && marksGood (w .state .marks))
 
 -- the first of two refusals that is due, or what comes then
 abbrev pub checked : {A : Type 0} → World → (ℕ → A) → A → A
@@ -60,23 +70,40 @@ interrupting v = do
   trap v
   halted false
 
+unfoldable pub movesIn : Move → Bool
+movesIn (Transfers i) = movIn i
+movesIn (Stacks i) = popIn i
+movesIn (Branches i) = false
+movesIn (Tests i) = false
+
+-- MOV by 8E and POP into a segment register: after these the next instruction runs before any interrupt
+unfoldable pub loadsSegment : Instr → Bool
+loadsSegment (Computes i) = false
+loadsSegment (Moves i) = movesIn i
+loadsSegment (Multiplies i) = false
+loadsSegment (Interrupts i) = false
+loadsSegment (Blocks k w seg q) = false
+loadsSegment (Ports i) = false
+loadsSegment (Controls i) = false
+
 -- the trap to vector 1 if BRK was 1 before and no other trap was taken
 unfoldable pub singleStep : Bool → Act Unit
 singleStep false = pure tt
 singleStep true = interrupting 1
 
+-- it does not follow a segment load
 unfoldable pub stepping : Instr → ℕ → Act Unit
 stepping i n = do
   traced ← flag BRK
   trapped ← execute i n
-  singleStep (traced && not trapped)
+  singleStep (traced && not (trapped || loadsSegment i))
 
--- the count rises with the step, so that a record finds its gap there
-unfoldable pub counted : World → World
-counted w = withState w (withCount (w .state) (risen rule (w .state .progress .count)))
+-- the count rises with the step, so that a record finds its gap there; the mark says whether the step loads a segment register
+unfoldable pub begun : Instr → World → World
+begun i w = withState w (withMarks (withCount (w .state) (risen rule (w .state .progress .count))) (markLoaded (w .state .marks) (loadsSegment i)))
 
 unfoldable pub decoded : (ℕ → Choice) → Read Instr → World → Outcome Unit
-decoded u (known i n) w = runBy u (stepping i n) (counted w)
+decoded u (known i n) w = runBy u (stepping i n) (begun i w)
 decoded u (unknown r n) w = refusal r
 
 unfoldable pub awake : (ℕ → Choice) → World → Outcome Unit
@@ -93,7 +120,7 @@ step w = stepBy kept w
 
 unfoldable pub interruptBy : (ℕ → Choice) → ℕ → Bool → World → Outcome Unit
 interruptBy u v maskable w =
-    checked w refusal (pick (maskable && not (flagOf (pswOf (w .state)) IE)) (refusal 7) (runBy u (interrupting v) w))
+    checked w refusal (pick (w .state .marks .loaded) (refusal 13) (pick (maskable && not (flagOf (pswOf (w .state)) IE)) (refusal 7) (runBy u (interrupting v) w)))
 
 unfoldable pub interrupt : ℕ → Bool → World → Outcome Unit
 interrupt v maskable w = interruptBy kept v maskable w
@@ -101,7 +128,7 @@ interrupt v maskable w = interruptBy kept v maskable w
 -- ---- reset
 
 unfoldable pub reset : State
-reset = stateOf (set (set (replicate 14 0) PS 0xffff) PSW 0xf002) (record { halted = false }) (progressOf 0 0 0)
+reset = stateOf (set (set (replicate 14 0) PS 0xffff) PSW 0xf002) (marksOf false false) (progressOf 0 0 0)
 
 -- ---- what a call reports
 

@@ -95,3 +95,17 @@ transfer PswFromAh = pswFromAh
 transfer (Ldea reg from) = ldea reg from
 transfer (Trans seg) = trans seg
 transfer (Xch w reg with) = xch w reg with
+
+-- MOV into a segment register by 8E; the 32-bit pointer loads are not named (02 f)
+unfoldable pub movIn : Transfer → Bool
+movIn (Mov w to from) = false
+movIn (LoadAcc w from) = false
+movIn (StoreAcc w to) = false
+movIn (ToSegment seg from) = true
+movIn (FromSegment to seg) = false
+movIn (LoadPointer seg reg from) = false
+movIn AhFromPsw = false
+movIn PswFromAh = false
+movIn (Ldea reg from) = false
+movIn (Trans seg) = false
+movIn (Xch w reg with) = false

@@ -46,9 +46,17 @@ withMarks s m = stateOf (s .file) m (s .progress)
 abbrev pub withProgress : State → Progress → State
 withProgress s q = stateOf (s .file) (s .marks) q
 
+-- the marks of these: the only place that writes them down
+abbrev pub marksOf : Bool → Bool → Marks
+marksOf halted loaded = record { halted = halted; loaded = loaded }
+
 -- the halted mark, set or not
 abbrev pub markHalted : Marks → Bool → Marks
-markHalted m b = record { halted = b }
+markHalted m b = marksOf b (m .loaded)
+
+-- the mark of a segment load, set or not
+abbrev pub markLoaded : Marks → Bool → Marks
+markLoaded m b = marksOf (m .halted) b
 
 abbrev pub withHalted : State → Bool → State
 withHalted s b = withMarks s (markHalted (s .marks) b)

@@ -11,6 +11,8 @@ pub struct State {
 
 pub struct Marks {
     pub halted: bool,
+    // the last finished step loaded a segment register
+    pub loaded: bool,
 }
 
 // What of a state the ports move.
