@@ -1,13 +1,12 @@
 // What every public call checks first, and the calls that read no instruction: reset and interrupt.
 use registers::PSW;
 use sheet::Bus;
-use sheet::Marks;
 use sheet::Progress;
 use sheet::State;
 ghost use mathlib.Core.Path.{_≡_};
 ghost use Rattle.sheet.specs.World.{world};
 ghost use Rattle.sheet.specs.Step as definition;
-ghost use Rattle.calls.specs.Calls.{checkNumber, Accepts, Interrupts};
+ghost use Rattle.calls.specs.Calls.{checkNumber, heldNumber, Accepts, Interrupts};
 
 // What a call answers: the number, the state and the bus.
 pub struct Answer {
@@ -22,7 +21,7 @@ pub fn reset() -> State
 {
     State {
         file: [0, 0, 0, 0, 0, 0, 0, 0, 0, 0xffff, 0, 0, 0, 0xf002],
-        marks: Marks { halted: false },
+        marks: marks::none(),
         progress: Progress {
             tape: 0,
             log: 0,
@@ -43,17 +42,19 @@ fn places_good(s: State, tape: &[u8], log: &[u8]) -> bool
 pub fn check(s: State, ram: &[u8], rom: &[u8], tape: &[u8], log: &[u8]) -> u8
     ensures { λ r. ⌜ r ≡ checkNumber (world s (now (ram .entry)) (now (rom .entry)) (now (tape .entry)) (now (log .entry))) ⌝ }
 {
-    let m = ram.len();
+    let long = ram.len();
     let n = rom.len();
-    if 1048576 < m {
+    if 1048576 < long {
         return 1;
     }
-    if 1048576 - m < n {
+    if 1048576 - long < n {
         return 1;
     }
     let fixed = flags::fixed(s.file[PSW]);
     let placed = places_good(s, tape, log);
-    if fixed & placed {
+    let m = s.marks;
+    let marked = marks::good(m);
+    if fixed & (placed & marked) {
         return 0;
     }
     2
@@ -64,20 +65,36 @@ fn accept(s: State, ram: &mut [u8], rom: &[u8], vector: u8) -> Answer
     ensures { λ r. ⌜ Accepts vector s (now (ram .entry)) (now (rom .entry)) (r .number) (r .state) (now (ram .exit)) (r .bus) ⌝ }
 {
     let mut file = s.file;
+    let m = s.marks;
+    let marks = marks::woken(m);
     let progress = s.progress;
     let b = traps::trap(&mut file, ram, rom, vector);
     Answer {
         number: 0,
         state: State {
             file,
-            marks: Marks { halted: false },
+            marks,
             progress,
         },
         bus: b,
     }
 }
 
-// An interrupt call: checks 1, 2, 7.
+// 13 after a segment load, 7 where it is masked, or 0 where neither holds an interrupt off.
+fn held_off(s: State, maskable: bool) -> u8
+    ensures { λ r. ⌜ r ≡ heldNumber maskable s ⌝ }
+{
+    if s.marks.loaded {
+        return 13;
+    }
+    let ie = flags::ie(s.file[PSW]);
+    if maskable & !ie {
+        return 7;
+    }
+    0
+}
+
+// An interrupt call: checks 1, 2, 13, 7.
 pub fn interrupt(
     s: State,
     ram: &mut [u8],
@@ -97,10 +114,10 @@ pub fn interrupt(
             bus: tally::none(),
         };
     }
-    let ie = flags::ie(s.file[PSW]);
-    if maskable & !ie {
+    let held = held_off(s, maskable);
+    if held != 0 {
         return Answer {
-            number: 7,
+            number: held,
             state: s,
             bus: tally::none(),
         };

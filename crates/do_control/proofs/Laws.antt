@@ -26,9 +26,9 @@ module _ (i : Control) (f : List ℕ) (m : Marks) where
   unfolding control
   at-nop e = unmarked (rw e file-pure)
 
-  pub at-halt : i ≡ Halt → Controls i f m f (markHalted m true)
+  pub at-halt : (m′ : Marks) → i ≡ Halt → m′ ≡ markHalted m true → Controls i f m f m′
   unfolding control
-  at-halt e = rw e (record { at = λ q ram rom tape log. ends-halted true })
+  at-halt m′ e d = rw (e, d) (record { at = λ q ram rom tape log. ends-halted true })
 
   pub at-flag : (j : Control) (q : Flag) (b : Bool) (x : ℕ) → i ≡ j → control j ≡ setFlag q b → x ≡ settled keeps (only q b) (getD f PSW 0) → Controls i f m (set f PSW x) m
   at-flag j q b x e s z = unmarked (rw (e, s) (file-flags (only q b) z))

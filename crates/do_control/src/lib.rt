@@ -5,40 +5,40 @@ use sheet::Marks;
 ghost use Rattle.do_control.specs.Controls.{Controls};
 
 // Returns the marks afterwards.
-pub fn control(file: &mut [u16; 14], marks: Marks, i: Control) -> Marks
-    ensures { λ r. ⌜ Controls i (now (file .entry)) marks (now (file .exit)) r ⌝ }
+pub fn control(file: &mut [u16; 14], m: Marks, i: Control) -> Marks
+    ensures { λ r. ⌜ Controls i (now (file .entry)) m (now (file .exit)) r ⌝ }
 {
     match i {
-        Control::Nop => marks,
-        Control::Halt => Marks { halted: true },
+        Control::Nop => m,
+        Control::Halt => marks::halting(m),
         Control::Di => {
             file[PSW] = psw::with_ie(false, file[PSW]);
-            marks
+            m
         }
         Control::Ei => {
             file[PSW] = psw::with_ie(true, file[PSW]);
-            marks
+            m
         }
         Control::ClrCy => {
             file[PSW] = psw::with_cy(false, file[PSW]);
-            marks
+            m
         }
         Control::SetCy => {
             file[PSW] = psw::with_cy(true, file[PSW]);
-            marks
+            m
         }
         Control::NotCy => {
             let c = flags::cy(file[PSW]);
             file[PSW] = psw::with_cy(!c, file[PSW]);
-            marks
+            m
         }
         Control::ClrDir => {
             file[PSW] = psw::with_dir(false, file[PSW]);
-            marks
+            m
         }
         Control::SetDir => {
             file[PSW] = psw::with_dir(true, file[PSW]);
-            marks
+            m
         }
     }
 }

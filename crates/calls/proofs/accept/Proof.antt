@@ -7,4 +7,4 @@ returns : tie.Need-returns
 returns c = search (accepts, needs)
 
 pub accept-spec : {M : Type 1} → statement M
-accept-spec = tie.close (tie.spec (λ c κs. search needs) (λ c. search needs) returns)
+accept-spec = tie.close (tie.spec (λ c κs. search needs) (λ c κs. search needs) (λ c. search needs) returns)

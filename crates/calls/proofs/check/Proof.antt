@@ -24,5 +24,6 @@ check-spec =
     (λ c. search needs)
     (λ c κs. search needs)
     (λ c κs. search needs)
+    (λ c κs. search needs)
     returns-3
     returns-4)

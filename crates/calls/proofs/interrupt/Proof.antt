@@ -1,4 +1,4 @@
-use Rattle.calls.proofs.Laws.{refused-first, refused-masked, taken}
+use Rattle.calls.proofs.Laws.{refused-first, refused-held, taken}
 use borrow.Author.Needs.{needs}
 use Rattle.calls.proofs.interrupt.Statement.{statement}
 use Rattle.calls.proofs.interrupt.Tie as tie
@@ -7,7 +7,7 @@ returns : tie.Need-returns
 returns c = search (refused-first, needs)
 
 returns-2 : tie.Need-returns-2
-returns-2 c = search (refused-masked, needs)
+returns-2 c = search (refused-held, needs)
 
 returns-3 : tie.Need-returns-3
 returns-3 c = search (taken, needs)
@@ -20,7 +20,6 @@ interrupt-spec =
     (λ c κs. search needs)
     (λ c. search needs)
     returns
-    (λ c. search needs)
     (λ c κs. search needs)
     (λ c κs. search needs)
     (λ c. search needs)

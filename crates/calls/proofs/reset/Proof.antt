@@ -1,11 +1,11 @@
-use mathlib.Core.Path.{refl}
 use Rattle.sheet.specs.Step.{reset}
+use borrow.Author.Needs.{needs}
 use Rattle.calls.proofs.reset.Statement.{statement}
 use Rattle.calls.proofs.reset.Tie as tie
 
 returns : tie.Need-returns
 unfolding reset
-returns c = refl
+returns c = cc
 
 pub reset-spec : {M : Type 1} → statement M
-reset-spec = tie.close (tie.spec returns)
+reset-spec = tie.close (tie.spec (λ c κs. search needs) returns)
