@@ -39,15 +39,6 @@ pub fn woken(m: Marks) -> Marks
     }
 }
 
-pub fn begun(m: Marks, loads: bool) -> Marks
-    ensures { λ r. ⌜ r ≡ markLoaded m loads ⌝ }
-{
-    Marks {
-        halted: m.halted,
-        loaded: loads,
-    }
-}
-
 pub fn good(m: Marks) -> bool
     ensures { λ r. ⌜ r ≡ marksGood m ⌝ }
 {
@@ -103,7 +94,7 @@ fn moves_in(i: Move) -> bool
 }
 
 // MOV by 8E, and POP into a segment register.
-pub fn loads_segment(i: Instr) -> bool
+fn loads_segment(i: Instr) -> bool
     ensures { λ r. ⌜ r ≡ loadsSegment i ⌝ }
 {
     match i {
@@ -119,5 +110,15 @@ pub fn loads_segment(i: Instr) -> bool
         } => false,
         Instr::Ports(t) => false,
         Instr::Controls(t) => false,
+    }
+}
+
+// With the step that begins.
+pub fn begun(m: Marks, i: Instr) -> Marks
+    ensures { λ r. ⌜ r ≡ markLoaded m (loadsSegment i) ⌝ }
+{
+    Marks {
+        halted: m.halted,
+        loaded: loads_segment(i),
     }
 }

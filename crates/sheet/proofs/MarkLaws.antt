@@ -1,7 +1,7 @@
 -- The marks: what a step makes of them, and that no call leaves a machine both halted and marked.
 use Prim.Native.Nat.{ℕ}
 use mathlib.Core.Path.{_≡_, refl, sym, _∙_}
-use mathlib.Core.Bool.{Bool, true, false, not, _&&_, _||_, true≢false}
+use mathlib.Core.Bool.{Bool, true, false, not, _&&_, true≢false}
 use mathlib.Core.List.{List}
 use lib.ListN.{length}
 use Rattle.sheet.specs.declared.Marks.{Marks}
@@ -79,7 +79,7 @@ calm-runs (calm-ask {f = f} k) u w v e = leaves-then (asks f) (calm-runs (k (fla
 calm-runs (calm-load {b = b} {g = g} {o = o} k) u w v e = leaves-then (reads b g o) (calm-runs (k (readMem b (v .ram) (v .rom) g o)) u w v e)
 
 -- no trap follows the step
-calm-last : (b : Bool) → Calm (singleStep (b && not (false || true)))
+calm-last : (b : Bool) → Calm (singleStep ((b && not true) && not false))
 unfolding singleStep
 calm-last true = calm-pure
 calm-last false = calm-pure

@@ -1,7 +1,7 @@
 -- One step, an interrupt call, and reset; what a step and an interrupt report.
 -- 01:15, 23-29, 35-48
 use Prim.Native.Nat.{ℕ, _+_}
-use mathlib.Core.Bool.{Bool, true, false, not, _&&_, _||_}
+use mathlib.Core.Bool.{Bool, true, false, not, _&&_}
 use mathlib.Core.List.{List, []}
 use lib.ListN.{length, replicate, set}
 use lib.Dec.{leb}
@@ -96,7 +96,7 @@ unfoldable pub stepping : Instr → ℕ → Act Unit
 stepping i n = do
   traced ← flag BRK
   trapped ← execute i n
-  singleStep (traced && not (trapped || loadsSegment i))
+  singleStep ((traced && not (loadsSegment i)) && not trapped)
 
 -- the count rises with the step, so that a record finds its gap there; the mark says whether the step loads a segment register
 unfoldable pub begun : Instr → World → World

@@ -13,12 +13,12 @@ use Rattle.sheet.specs.Width.{add16}
 use Rattle.sheet.specs.Psw.{BRK, flagOf}
 use Rattle.sheet.specs.Registers.{PC, PSW}
 use Rattle.sheet.specs.Log.{rule, risen}
-use Rattle.sheet.specs.World.{world, stateOf, markHalted}
+use Rattle.sheet.specs.World.{world, stateOf, markHalted, markLoaded}
 use Rattle.sheet.specs.Act.{halted}
 use Rattle.sheet.specs.Handler.{_⊕_}
 use Rattle.sheet.specs.Traps.{trap}
 use Rattle.sheet.specs.Execute.{operation, execute}
-use Rattle.sheet.specs.Step.{interrupting, singleStep, stepping, counted}
+use Rattle.sheet.specs.Step.{loadsSegment, interrupting, singleStep, begun, stepping}
 use Rattle.sheet.specs.Contract.{Ends, Stops, OnMemory}
 use Rattle.sheet.proofs.Rules.{seq, seq-last, seq-stops, seq-then-stops, seq-flag, seq-registers, seq-set, ends-pure, ends-halted, ends-flag, ends-registers, ends-set}
 use Rattle.tally.specs.Sums.{Free}
@@ -26,9 +26,9 @@ use Rattle.tally.proofs.Bounds.{within-free, within-memory, within-both}
 use Rattle.execute.specs.Performs.{Performs}
 use Rattle.stepper.specs.Proceeds.{begunAt, Finishes, Settles, Proceeds}
 
-pub finishes-traced : (t : Bool) (h : Marks) (f g ram ram′ rom : List ℕ) (n : Bus) → t ≡ true → OnMemory Unit (trap 1) f ram rom tt g ram′ n 8 → Finishes t f ram rom h g ram′ (markHalted h false) n
+pub finishes-traced : (t : Bool) (h j : Marks) (f g ram ram′ rom : List ℕ) (n : Bus) → t ≡ true → OnMemory Unit (trap 1) f ram rom tt g ram′ n 8 → j ≡ markHalted h false → Finishes t f ram rom h g ram′ j n
 unfolding singleStep interrupting
-finishes-traced t h f g ram ram′ rom n e p = record { most = within-memory p; at = λ q tape log. rw e (seq-last _ (p .at (stateOf f h q) tape log) (ends-halted false)) }
+finishes-traced t h j f g ram ram′ rom n e p d = rw d (record { most = within-memory p; at = λ q tape log. rw e (seq-last _ (p .at (stateOf f h q) tape log) (ends-halted false)) })
 
 pub finishes-untraced : (t : Bool) (h : Marks) (f ram rom : List ℕ) (n : Bus) → t ≡ false → Free n → Finishes t f ram rom h f ram h n
 unfolding singleStep
@@ -63,37 +63,41 @@ module _ (i : Instr) (size start next : ℕ) (f g ram ram′ rom tape log log′
 
 -- ---- the instruction and its trap
 
-begun : (f ram rom tape log : List ℕ) (m : Marks) (q : Progress) → counted (world (stateOf f m q) ram rom tape log) ≡ world (stateOf f m (begunAt q)) ram rom tape log
-unfolding counted
-begun f ram rom tape log m q = refl
+begun-at : (i : Instr) (f ram rom tape log : List ℕ) (m : Marks) (q : Progress)
+    → begun i (world (stateOf f m q) ram rom tape log) ≡ world (stateOf f (markLoaded m (loadsSegment i)) (begunAt q)) ram rom tape log
+unfolding begun
+begun-at i f ram rom tape log m q = refl
 
-module _ (i : Instr) (size : ℕ) (f g ram ram′ rom tape log log′ : List ℕ) (m m′ : Marks) (q b q′ : Progress) (number : ℕ) (traced trapped : Bool) (n : Bus)
-    (e : traced ≡ flagOf (getD f PSW 0) BRK) (u : b ≡ begunAt q)
-    (p : Performs (execute i size) f ram rom tape log m b number trapped m′ g ram′ log′ q′ n) where
-  executed : Performs (execute i size) f ram rom tape log m (begunAt q) number trapped m′ g ram′ log′ q′ n
-  executed = rw (← u) p
+module _ (i : Instr) (size : ℕ) (f g ram ram′ rom tape log log′ : List ℕ) (m k m′ : Marks) (q b q′ : Progress) (number : ℕ) (traced trapped : Bool) (n : Bus)
+    (e : traced ≡ (flagOf (getD f PSW 0) BRK && not (k .loaded))) (d : k ≡ markLoaded m (loadsSegment i)) (u : b ≡ begunAt q)
+    (p : Performs (execute i size) f ram rom tape log k b number trapped m′ g ram′ log′ q′ n) where
+  executed : Performs (execute i size) f ram rom tape log (markLoaded m (loadsSegment i)) (begunAt q) number trapped m′ g ram′ log′ q′ n
+  executed = rw (← u, ← d) p
 
-  stops-short : (number ≡ 0 → ⊥) → Stops Unit (stepping i size) (world (stateOf f m (begunAt q)) ram rom tape log) number
+  stops-short : (number ≡ 0 → ⊥) → Stops Unit (stepping i size) (world (stateOf f (markLoaded m (loadsSegment i)) (begunAt q)) ram rom tape log) number
   unfolding stepping
   stops-short z = seq-then-stops _ (ends-flag BRK) (seq-stops _ (executed .stop z))
 
   pub proceeds-stop : (c : Bus) → (number ≡ 0 → ⊥) → Free c → Proceeds i size f ram rom tape log m q number m q g ram′ log′ c
-  proceeds-stop c z k = record {
-    most = within-free k;
-    done = λ y. absurd (z y);
-    stop = λ y. rw (begun f ram rom tape log m q) (stops-short z);
-    same = λ y. (p .same z .0, p .same z .1, p .same z .2, refl, refl, k .is);
+  proceeds-stop c z y = record {
+    most = within-free y;
+    done = λ x. absurd (z x);
+    stop = λ x. rw (begun-at i f ram rom tape log m q) (stops-short z);
+    same = λ x. (p .same z .0, p .same z .1, p .same z .2, refl, refl, y .is);
   }
 
   module _ (r : ℕ) (m″ : Marks) (q″ : Progress) (h ram″ : List ℕ) (c : Bus) (s : Settles (traced && not trapped) m′ q′ n g ram′ rom r m″ q″ h ram″ c) where
-    steps : number ≡ 0 → Ends Unit (stepping i size) (world (stateOf f m (begunAt q)) ram rom tape log) tt (world (stateOf h m″ q′) ram″ rom tape log′) (n ⊕ s .last)
+    last : Settles ((flagOf (getD f PSW 0) BRK && not (loadsSegment i)) && not trapped) m′ q′ n g ram′ rom r m″ q″ h ram″ c
+    last = rw (e, d) at s
+
+    steps : number ≡ 0 → Ends Unit (stepping i size) (world (stateOf f (markLoaded m (loadsSegment i)) (begunAt q)) ram rom tape log) tt (world (stateOf h m″ q′) ram″ rom tape log′) (n ⊕ last .last)
     unfolding stepping
-    steps z = seq-flag BRK _ (rw (← e) (seq _ (executed .done z) (s .finish .at q′ tape log′)))
+    steps z = seq-flag BRK _ (seq _ (executed .done z) (last .finish .at q′ tape log′))
 
     pub proceeds-done : number ≡ 0 → Proceeds i size f ram rom tape log m q r m″ q″ h ram″ log′ c
     proceeds-done z = record {
-      most = rw (s .sum .is) (within-both (p .most) (s .finish .most));
-      done = λ y. rw (s .places, s .sum .is, begun f ram rom tape log m q) (steps z);
-      stop = λ y. absurd (y (s .zero));
-      same = λ y. absurd (y (s .zero));
+      most = rw (last .sum .is) (within-both (p .most) (last .finish .most));
+      done = λ y. rw (last .places, last .sum .is, begun-at i f ram rom tape log m q) (steps z);
+      stop = λ y. absurd (y (last .zero));
+      same = λ y. absurd (y (last .zero));
     }

@@ -9,6 +9,7 @@ use sheet::Progress;
 ghost use mathlib.Core.Path.{_≡_};
 ghost use Rattle.sheet.specs.Log.{rule, risen};
 ghost use mathlib.Core.Bool.{not, _&&_};
+ghost use Rattle.sheet.specs.Psw.{BRK, flagOf};
 ghost use Rattle.stepper.specs.Proceeds.{begunAt, Finishes, Settles, Proceeds};
 ghost use Rattle.sheet.specs.Execute.{execute};
 ghost use Rattle.tally.specs.Bounds.{Within};
@@ -27,20 +28,27 @@ pub struct Finished {
 }
 
 // The trap to vector 1, which ends a halt.
-fn finish(file: &mut [u16; 14], ram: &mut [u8], rom: &[u8], traced: bool, marks: Marks) -> Finished
-    ensures { λ r. ⌜ Finishes traced (now (file .entry)) (now (ram .entry)) (now (rom .entry)) marks (now (file .exit)) (now (ram .exit)) (r .marks) (r .bus) ⌝ }
+fn finish(file: &mut [u16; 14], ram: &mut [u8], rom: &[u8], traced: bool, m: Marks) -> Finished
+    ensures { λ r. ⌜ Finishes traced (now (file .entry)) (now (ram .entry)) (now (rom .entry)) m (now (file .exit)) (now (ram .exit)) (r .marks) (r .bus) ⌝ }
 {
     if traced {
         let b = traps::trap(file, ram, rom, 1);
         return Finished {
-            marks: Marks { halted: false },
+            marks: marks::woken(m),
             bus: b,
         };
     }
     Finished {
-        marks,
+        marks: m,
         bus: tally::none(),
     }
+}
+
+// Whether the single-step trap follows a step that takes no trap itself: not after a segment load.
+fn is_traced(psw: u16, marked: Marks) -> bool
+    ensures { λ r. ⌜ r ≡ (flagOf psw BRK && not (marked .loaded)) ⌝ }
+{
+    flags::brk(psw) & !marked.loaded
 }
 
 // Where tape, log and count stand once the instruction has begun.
@@ -116,9 +124,10 @@ pub fn proceed(
 ) -> Stepped
     ensures { λ r. ⌜ Proceeds i size (now (file .entry)) (now (ram .entry)) (now (rom .entry)) (now (tape .entry)) (now (log .entry)) m q (r .number) (r .marks) (r .progress) (now (file .exit)) (now (ram .exit)) (now (log .exit)) (r .bus) ⌝ }
 {
-    let traced = flags::brk(file[PSW]);
+    let marked = marks::begun(m, i);
+    let traced = is_traced(file[PSW], marked);
     let begun = begin(q);
-    let p = launch(file, ram, rom, tape, log, m, begun, i, size);
+    let p = launch(file, ram, rom, tape, log, marked, begun, i, size);
     if p.number != 0 {
         return Stepped {
             number: p.number,

@@ -7,12 +7,13 @@ returns : tie.Need-returns
 returns c = search (proceeds-stop, needs)
 
 returns-2 : tie.Need-returns-2
-returns-2 c = search (proceeds-done, c .before .before .before .before .before .before .before .before .before .before .before .before .before .before .before .before .brk .ensures, needs)
+returns-2 c = search (proceeds-done, c .before .before .before .before .before .before .before .before .before .before .before .before .before .before .before .before .is-traced .ensures, c .before .before .before .before .before .before .before .before .before .before .before .before .before .before .before .before .before .before .begun .ensures, needs)
 
 pub proceed-spec : {M : Type 1} → statement M
 proceed-spec =
     tie.close
     (tie.spec
+    (λ c κs. search needs)
     (λ c. search needs)
     (λ c κs. search needs)
     (λ c κs. search needs)
