@@ -17,7 +17,7 @@ use Rattle.sheet.specs.Handler.{Outcome, run, kept, runBy, nothing}
 use Rattle.sheet.specs.Reading.{known, scan}
 use Rattle.sheet.specs.FirstByte.{instruction}
 use Rattle.sheet.specs.Contract.{Refuses, stops, exec, seen, report, reportOf}
-use Rattle.sheet.specs.Step.{refusal, source, codeByte, stepping, counted, decoded, awake, stepBy, step, stepReport}
+use Rattle.sheet.specs.Step.{refusal, source, codeByte, starting, stepping, decoded, awake, stepBy, step, stepReport}
 use Rattle.answers.specs.declared.Decoded.{Decoded}
 use Rattle.answers.specs.declared.Decoded.the-variants.{Known, Unknown}
 use Rattle.answers.specs.Answer.{Decodes}
@@ -31,7 +31,7 @@ use Rattle.engine.specs.declared.Advanced.{Advanced}
 use Rattle.engine.specs.Steps.{refusedAt, advancedBy, answerOf, Carries, Advances, Moves, Steps}
 
 -- what a machine that is not halted comes to, by what stands at PS:PC
-pub awake-known : (w : World) (i : Instr) (n : ℕ) → w .state .marks .halted ≡ false → scan instruction (source w) 0 ≡ known i n → awake kept w ≡ runBy kept (stepping i n) (counted w)
+pub awake-known : (w : World) (i : Instr) (n : ℕ) → w .state .marks .halted ≡ false → scan instruction (source w) 0 ≡ known i n → awake kept w ≡ runBy kept (stepping i n) (starting i w)
 unfolding awake decoded
 awake-known w i n h e = rw (h, e)
 
@@ -71,15 +71,15 @@ module _ (f : List ℕ) (m : Marks) (q : Progress) (ram rom tape log : List ℕ)
     unfolding up exec run
     advances-read i size number m′ q′ f′ ram′ log′ n e p = go (eqb number 0) refl
       where
-        known-at : awake kept up ≡ runBy kept (stepping i size) (counted up)
+        known-at : awake kept up ≡ runBy kept (stepping i size) (starting i up)
         known-at = awake-known up i size h (known-reads i size (read e) .is)
 
         go : (t : Bool) → eqb number 0 ≡ t → Advances (stateOf f m q) ram rom tape log t number (stateOf f′ m′ q′) ram′ log′ n
-        go true y = let z = eqb-true number 0 y in record { most = p .most; is = rw known-at (p .done z .is); zero = λ t. z; same = λ t. absurd (true≢false t) }
+        go true y = let z = eqb-true number 0 y in record { most = p .most .cycles; is = rw known-at (p .done z .is); zero = λ t. z; same = λ t. absurd (true≢false t) }
         go false y =
             let z = eqb-false number 0 y in
             let (u, x, g, k, l, o) = p .same z in
-            record { most = p .most; is = rw known-at (p .stop z .is); zero = λ t. cc; same = λ t. (rw (u, k, l), x, g, o) }
+            record { most = p .most .cycles; is = rw known-at (p .stop z .is); zero = λ t. cc; same = λ t. (rw (u, k, l), x, g, o) }
 
     pub advances-known : (i : Instr) (size : ℕ) (x : Advanced) (f′ ram′ log′ : List ℕ) → r ≡ Known i size → Carries i size f ram rom tape log m q x f′ ram′ log′
         → Advances (stateOf f m q) ram rom tape log (x .done) (x .number) (stateOf f′ (x .marks) (x .progress)) ram′ log′ (x .bus)

@@ -13,10 +13,11 @@ use Rattle.sheet.specs.declared.Progress.{Progress}
 use Rattle.sheet.specs.World.{World, world, stateOf}
 use Rattle.sheet.specs.Handler.{Event, Outcome, refused, done, kept, nothing, _⊕_, tally}
 use Rattle.sheet.specs.Contract.{stops, ends, seen}
-use Rattle.sheet.specs.Step.{fits, sound, refusal, awake, stepBy}
+use Rattle.sheet.specs.Step.{fits, marksGood, sound, refusal, awake, stepBy}
 use Rattle.sheet.specs.Run.{Ran, ran, more, onward, stepsBy, runsBy, runs, RunReport, runReported, ranReport}
 use Rattle.sheet.proofs.Lent.{Lent, Sound}
 use Rattle.sheet.proofs.StepLaws.{step-leaves}
+use Rattle.sheet.proofs.MarkLaws.{step-unmixed}
 use Rattle.calls.specs.Calls.{checkNumber}
 use Rattle.calls.proofs.Laws.{passed, checked-passed, checked-refused}
 use Rattle.engine.specs.Steps.{Advances}
@@ -70,9 +71,9 @@ unfolding stepBy
 step-on v = checked-passed v refusal (awake kept v)
 
 -- an accepted call leaves a world that passes the checks again
-pub sound-so : (w : World) → Sound w → sound w ≡ true
+pub sound-so : (w : World) → Sound w → marksGood (w .state .marks) ≡ true → sound w ≡ true
 unfolding sound
-sound-so w s = rw (s .fixed, le-leb _ _ (s .tape-in), le-leb _ _ (s .log-in), le-leb _ _ (s .count-in))
+sound-so w s m = rw (s .fixed, le-leb _ _ (s .tape-in), le-leb _ _ (s .log-in), le-leb _ _ (s .count-in), m)
 
 pub fits-so : (w v : World) → Lent w v → fits w ≡ true → fits v ≡ true
 unfolding fits
@@ -123,7 +124,7 @@ module _ {w : World} {s : State} {ram rom tape log : List ℕ} {k c : ℕ} (p : 
         accepted = p .accepted;
         most = (let x = p .most in let y = a .most in omega arith);
         whole = g .sound .whole;
-        good = (fits-so v v′ (g .lent) (p .good .0), sound-so v′ (g .sound));
+        good = (fits-so v v′ (g .lent) (p .good .0), sound-so v′ (g .sound) (step-unmixed kept v v′ (d .events) (p .whole) (d .is)));
         rest = λ j. rest-of d j;
       }
     where

@@ -22,7 +22,7 @@ use Rattle.sheet.specs.Reading as reading
 use Rattle.sheet.specs.Reading.{Reading, got, no, known, scan}
 use Rattle.sheet.specs.Encoding.{Prefix, unprefixed, withPrefix, prefixOf, segOr, lookUp}
 use Rattle.sheet.specs.FirstByte.{firstBytes, afterPrefix, prefixed, instruction}
-use Rattle.sheet.specs.Step.{fits, sound, source, stepping, begun, decoded, awake, stepBy}
+use Rattle.sheet.specs.Step.{fits, sound, source, stepping, starting, decoded, awake, stepBy}
 
 -- prefix bytes, read after p, leave q
 pub data Prefixing : List ℕ → Prefixes → Prefixes → Type 0 where
@@ -108,6 +108,6 @@ block-read {q = q} k w src z r h =
 -- and the step does it
 pub block-turns : {l : List ℕ} {q : Prefixes} (u : ℕ → Choice) (k : Primitive) (b : Bool) (w : World) → Prefixing l unprefixed q → length l ≤ 3
     → Begins (l ++ (blockCode k b ∷ [])) (source w) 0 → fits w ≡ true → sound w ≡ true → w .state .marks .halted ≡ false
-    → stepBy u w ≡ runBy u (stepping (Blocks k b (segOr (q .seg) inDs0) (q .repeat)) (0 + length l + 1)) (begun (Blocks k b (segOr (q .seg) inDs0) (q .repeat)) w)
+    → stepBy u w ≡ runBy u (stepping (Blocks k b (segOr (q .seg) inDs0) (q .repeat)) (0 + length l + 1)) (starting (Blocks k b (segOr (q .seg) inDs0) (q .repeat)) w)
 unfolding stepBy awake decoded
 block-turns u k b w z r h f s a = rw (f, s, a, block-read k b (source w) z r h)

@@ -23,9 +23,9 @@ use Rattle.sheet.specs.Transfer.{toSegment, transfer, movIn}
 use Rattle.sheet.specs.Stack.{popSegment, stack, popIn}
 use Rattle.sheet.specs.Execute.{moving, operation, execute}
 use Rattle.sheet.specs.Handler.{Event, reads, asks, done, runBy}
-use Rattle.sheet.specs.Step.{fits, sound, marksGood, refusal, movesIn, loadsSegment, interrupting, singleStep, begun, stepping, stepBy, interruptBy}
+use Rattle.sheet.specs.Step.{fits, sound, marksGood, refusal, movesIn, loadsSegment, interrupting, singleStep, starting, stepping, stepBy, interruptBy}
 use Rattle.sheet.proofs.Lent.{Leaves, leaves, leaves-then, Kept, Good, good-kept, keeps-all, lent-refl, Sound}
-use Rattle.sheet.proofs.StepLaws.{Stepped, begins, Interrupted, enters, sound-is, begun-sound}
+use Rattle.sheet.proofs.StepLaws.{Stepped, begins, Interrupted, enters, sound-is, starting-sound}
 
 -- ---- no tree touches the mark of a segment load
 
@@ -51,11 +51,11 @@ mark-of (leaves m) = m .stays
 module _ (u : ℕ → Choice) (w v : World) (t : List Event) (n : length (w .state .file) ≡ 14) where
   -- a finished step leaves the mark exactly where it loaded a segment register
   pub step-marks : (s : Stepped u w v t) → v .state .marks .loaded ≡ loadsSegment (s .instr)
-  unfolding begun
+  unfolding starting
   step-marks s =
       let i = s .instr in
-      let g = begun-sound i w (sound-is w n (s .good)) in
-      mark-of (rw (s .ran) at (keeps-all (MarkStays (begun i w) (loadsSegment i)) (mark-kept (begun i w) (loadsSegment i)) (stepping i (s .size)) u (begun i w) (record { good = record { lent = lent-refl (begun i w); sound = g }; stays = refl })))
+      let g = starting-sound i w (sound-is w n (s .good)) in
+      mark-of (rw (s .ran) at (keeps-all (MarkStays (starting i w) (loadsSegment i)) (mark-kept (starting i w) (loadsSegment i)) (stepping i (s .size)) u (starting i w) (record { good = record { lent = lent-refl (starting i w); sound = g }; stays = refl })))
 
 -- ---- a segment load does not halt
 
@@ -135,11 +135,11 @@ unmarked-good m e = rw e (go (m .halted))
 -- no call leaves a machine both halted and marked
 module _ (u : ℕ → Choice) (w v : World) (t : List Event) (n : length (w .state .file) ≡ 14) where
   pub step-unmixed : stepBy u w ≡ done tt v t → marksGood (v .state .marks) ≡ true
-  unfolding begun
+  unfolding starting
   step-unmixed e = let s = begins u w v t e in go s (loadsSegment (s .instr)) refl
     where
       go : (s : Stepped u w v t) (b : Bool) → loadsSegment (s .instr) ≡ b → marksGood (v .state .marks) ≡ true
-      go s true l = rw (unhalted-of (rw (s .ran) at (calm-runs (load-calm (s .instr) (s .size) l) u (begun (s .instr) w) (begun (s .instr) w) refl)), s .up)
+      go s true l = rw (unhalted-of (rw (s .ran) at (calm-runs (load-calm (s .instr) (s .size) l) u (starting (s .instr) w) (starting (s .instr) w) refl)), s .up)
       go s false l = unmarked-good (v .state .marks) (step-marks u w v t n s ∙ l)
 
   pub interrupt-unmixed : (vector : ℕ) (maskable : Bool) → interruptBy u vector maskable w ≡ done tt v t → marksGood (v .state .marks) ≡ true

@@ -16,7 +16,7 @@ use Rattle.sheet.specs.World.{World, pswOf}
 use Rattle.sheet.specs.Handler.{Event, Outcome, refused, done, runBy}
 use Rattle.sheet.specs.Reading.{Read, known, unknown, scan}
 use Rattle.sheet.specs.FirstByte.{instruction}
-use Rattle.sheet.specs.Step.{fits, placesGood, sound, refusal, source, stepping, begun, decoded, awake, stepBy, interrupting, interruptBy}
+use Rattle.sheet.specs.Step.{fits, placesGood, sound, refusal, source, stepping, starting, decoded, awake, stepBy, interrupting, interruptBy}
 use Rattle.sheet.proofs.Lent.{Leaves, leaves, Sound, Good, stays-good}
 
 -- an outcome that is refused is not done
@@ -32,7 +32,7 @@ pub record Stepped (u : ℕ → Choice) (w v : World) (t : List Event) : Type 0 
   pub good : sound w ≡ true
   pub up : w .state .marks .halted ≡ false
   pub read : scan instruction (source w) 0 ≡ known instr size
-  pub ran : runBy u (stepping instr size) (begun instr w) ≡ done tt v t
+  pub ran : runBy u (stepping instr size) (starting instr w) ≡ done tt v t
 
 pub begins : (u : ℕ → Choice) (w v : World) (t : List Event) → stepBy u w ≡ done tt v t → Stepped u w v t
 unfolding stepBy awake decoded
@@ -78,9 +78,9 @@ sound-is w n e =
     let (c, d) = and-eq-true-iff (leb (w .state .progress .log) (length (w .log))) _ .0 e₂ in
     record { whole = n; fixed = a; tape-in = leb-true _ _ b; log-in = leb-true _ _ c; count-in = leb-true _ _ d }
 
-pub begun-sound : (i : Instr) (w : World) → Sound w → Sound (begun i w)
-unfolding begun
-begun-sound i w s = record { whole = s .whole; fixed = s .fixed; tape-in = s .tape-in; log-in = s .log-in; count-in = min-le-right (w .state .progress .count + 1) (rule .ceiling) }
+pub starting-sound : (i : Instr) (w : World) → Sound w → Sound (starting i w)
+unfolding starting
+starting-sound i w s = record { whole = s .whole; fixed = s .fixed; tape-in = s .tape-in; log-in = s .log-in; count-in = min-le-right (w .state .progress .count + 1) (rule .ceiling) }
 
 good-of : {w v : World} {t : List Event} → Leaves {A = Unit {0}} (Good w) (done tt v t) → Good w v
 good-of (leaves g) = g
@@ -88,11 +88,11 @@ good-of (leaves g) = g
 -- an accepted call hands on a sound state and the same lent buffers
 module _ (u : ℕ → Choice) (w v : World) (t : List Event) (n : length (w .state .file) ≡ 14) where
   pub step-leaves : stepBy u w ≡ done tt v t → Good w v
-  unfolding begun
+  unfolding starting
   step-leaves e =
       let a = begins u w v t e in
-      let s = begun-sound (a .instr) w (sound-is w n (a .good)) in
-      let g = good-of (rw (a .ran) at (stays-good (stepping (a .instr) (a .size)) u (begun (a .instr) w) s)) in
+      let s = starting-sound (a .instr) w (sound-is w n (a .good)) in
+      let g = good-of (rw (a .ran) at (stays-good (stepping (a .instr) (a .size)) u (starting (a .instr) w) s)) in
       record { lent = record { ram-long = g .lent .ram-long; rom-same = g .lent .rom-same; tape-same = g .lent .tape-same; log-long = g .lent .log-long }; sound = g .sound }
 
   pub interrupt-leaves : (vector : ℕ) (maskable : Bool) → interruptBy u vector maskable w ≡ done tt v t → Good w v

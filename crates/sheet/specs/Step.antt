@@ -99,11 +99,11 @@ stepping i n = do
   singleStep ((traced && not (loadsSegment i)) && not trapped)
 
 -- the count rises with the step, so that a record finds its gap there; the mark says whether the step loads a segment register
-unfoldable pub begun : Instr → World → World
-begun i w = withState w (withMarks (withCount (w .state) (risen rule (w .state .progress .count))) (markLoaded (w .state .marks) (loadsSegment i)))
+unfoldable pub starting : Instr → World → World
+starting i w = withState w (withMarks (withCount (w .state) (risen rule (w .state .progress .count))) (markLoaded (w .state .marks) (loadsSegment i)))
 
 unfoldable pub decoded : (ℕ → Choice) → Read Instr → World → Outcome Unit
-decoded u (known i n) w = runBy u (stepping i n) (begun i w)
+decoded u (known i n) w = runBy u (stepping i n) (starting i w)
 decoded u (unknown r n) w = refusal r
 
 unfoldable pub awake : (ℕ → Choice) → World → Outcome Unit

@@ -18,7 +18,7 @@ use Rattle.sheet.specs.Act.{halted}
 use Rattle.sheet.specs.Handler.{_⊕_}
 use Rattle.sheet.specs.Traps.{trap}
 use Rattle.sheet.specs.Execute.{operation, execute}
-use Rattle.sheet.specs.Step.{loadsSegment, interrupting, singleStep, begun, stepping}
+use Rattle.sheet.specs.Step.{loadsSegment, interrupting, singleStep, starting, stepping}
 use Rattle.sheet.specs.Contract.{Ends, Stops, OnMemory}
 use Rattle.sheet.proofs.Rules.{seq, seq-last, seq-stops, seq-then-stops, seq-flag, seq-registers, seq-set, ends-pure, ends-halted, ends-flag, ends-registers, ends-set}
 use Rattle.tally.specs.Sums.{Free}
@@ -64,8 +64,8 @@ module _ (i : Instr) (size start next : ℕ) (f g ram ram′ rom tape log log′
 -- ---- the instruction and its trap
 
 begun-at : (i : Instr) (f ram rom tape log : List ℕ) (m : Marks) (q : Progress)
-    → begun i (world (stateOf f m q) ram rom tape log) ≡ world (stateOf f (markLoaded m (loadsSegment i)) (begunAt q)) ram rom tape log
-unfolding begun
+    → starting i (world (stateOf f m q) ram rom tape log) ≡ world (stateOf f (markLoaded m (loadsSegment i)) (begunAt q)) ram rom tape log
+unfolding starting
 begun-at i f ram rom tape log m q = refl
 
 module _ (i : Instr) (size : ℕ) (f g ram ram′ rom tape log log′ : List ℕ) (m k m′ : Marks) (q b q′ : Progress) (number : ℕ) (traced trapped : Bool) (n : Bus)

@@ -13,7 +13,7 @@ use Rattle.sheet.specs.Handler.{nothing}
 use Rattle.sheet.specs.Contract.{Ends, Stops}
 use Rattle.tally.specs.Sums.{Joins}
 use Rattle.tally.specs.Bounds.{Within}
-use Rattle.sheet.specs.Step.{singleStep, begun, stepping}
+use Rattle.sheet.specs.Step.{singleStep, starting, stepping}
 
 pub record Finishes (traced : Bool) (f ram rom : List ℕ) (m : Marks) (f′ ram′ : List ℕ) (m′ : Marks) (n : Bus) : Type 0 where
   pub most : Within n 8
@@ -34,6 +34,6 @@ pub record Settles (traced : Bool) (m : Marks) (q : Progress) (n : Bus) (f ram r
 pub record Proceeds (i : Instr) (size : ℕ) (f ram rom tape log : List ℕ) (m : Marks) (q : Progress) (number : ℕ) (m′ : Marks) (q′ : Progress) (f′ ram′ log′ : List ℕ) (n : Bus) : Type 0 where
   pub most : Within n 1028
   pub done : number ≡ 0
-      → Ends Unit (stepping i size) (begun i (world (stateOf f m q) ram rom tape log)) tt (world (stateOf f′ m′ q′) ram′ rom tape log′) n
-  pub stop : (number ≡ 0 → ⊥) → Stops Unit (stepping i size) (begun i (world (stateOf f m q) ram rom tape log)) number
+      → Ends Unit (stepping i size) (starting i (world (stateOf f m q) ram rom tape log)) tt (world (stateOf f′ m′ q′) ram′ rom tape log′) n
+  pub stop : (number ≡ 0 → ⊥) → Stops Unit (stepping i size) (starting i (world (stateOf f m q) ram rom tape log)) number
   pub same : (number ≡ 0 → ⊥) → (f′ ≡ f) × (ram′ ≡ ram) × (log′ ≡ log) × (q′ ≡ q) × (m′ ≡ m) × (n ≡ nothing)

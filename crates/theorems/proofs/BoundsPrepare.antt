@@ -22,13 +22,13 @@ use Rattle.sheet.specs.Act.{Act, pure, flags, _>>=_, registers, _≔_, flag, ps
 use Rattle.sheet.specs.Handler.{run, runBy, tally}
 use Rattle.sheet.specs.Contract.{Seen, ends, exec, Ends, report, reportOf}
 use Rattle.sheet.specs.Traps.{push, pushPsw, pushPsPc, jumpFar, save, trap, untrapped}
-use Rattle.sheet.specs.Stack.{frame, frames, prepare, stack}
+use Rattle.sheet.specs.Stack.{frame, frames, prepare, stack, popIn}
 use Rattle.sheet.specs.Execute.{moving, operation, execute}
 use Rattle.sheet.specs.Reading as reading
 use Rattle.sheet.specs.Reading.{scan, word}
 use Rattle.sheet.specs.Encoding.{prefixOf, lookUp}
 use Rattle.sheet.specs.FirstByte.{afterPrefix, prefixed, instruction}
-use Rattle.sheet.specs.Step.{fits, sound, interrupting, singleStep, stepping, counted, stepReport}
+use Rattle.sheet.specs.Step.{fits, sound, interrupting, singleStep, loadsSegment, movesIn, starting, stepping, stepReport}
 use Rattle.theorems.specs.Bounds.{Finds, Odd, OddIn, Makes, stepTop, preparing}
 use Rattle.theorems.proofs.BoundsRules.{even-cycles}
 use Rattle.theorems.proofs.BoundsOperands.{even-first, even-second}
@@ -190,31 +190,31 @@ of-interrupting v w o = next (trap v) _ w (of-trap v w o) (λ a p. of-halted fal
 -- ---- the step
 
 of-stepping : (size n : ℕ) (w : World) → OddIn w → flagOf (pswOf (w .state)) BRK ≡ false → Exactly (λ v. Unit {0}) 1020 tt (exec (stepping (prepareAt size) n) w)
-unfolding stepping singleStep
+unfolding loadsSegment movesIn popIn stepping singleStep
 of-stepping size n w o e =
     next (flag BRK) _ w (of-flag BRK _ w e o) (λ v q. next (execute (prepareAt size) n) _ v (of-execute size n v q) (λ x p. of-pure x tt))
 
 of-tracing : (size n : ℕ) (w : World) → OddIn w → flagOf (pswOf (w .state)) BRK ≡ true → size % 2 ≡ 0 → size ≤ 65535 → Exactly (λ v. Unit {0}) 1028 tt (exec (stepping (prepareAt size) n) w)
-unfolding stepping singleStep
+unfolding loadsSegment movesIn popIn stepping singleStep
 of-tracing size n w o e h l =
     next (flag BRK) _ w (of-flag BRK _ w e o) (λ v q. next (execute (prepareAt size) n) _ v (of-execute size n v q) (λ x p. of-interrupting 1 x (p h l)))
 
 taken : (w : World) (n : ℕ) (e : Seen Unit) → Exactly (λ x. Unit {0}) n tt e → (x : World) × (reportOf w e ≡ report 0 x (record { cycles = n }))
 taken w n (ends tt x m) (exactly q h) = (x, rw h)
 
-turns : (w : World) (i : Instr) (n k : ℕ) → Finds w i n → Exactly (λ x. Unit {0}) k tt (exec (stepping i n) (counted w)) → Makes w k
+turns : (w : World) (i : Instr) (n k : ℕ) → Finds w i n → Exactly (λ x. Unit {0}) k tt (exec (stepping i n) (starting i w)) → Makes w k
 unfolding stepReport exec
 turns w i n k f h =
-    let (x, e) = taken w k (exec (stepping i n) (counted w)) h in
+    let (x, e) = taken w k (exec (stepping i n) (starting i w)) h in
     record { after = x; is = rw (step-is w i n (f .fit, f .good) (f .up) (f .there)) e }
 
 pub prepare-1020 : (w : World) (size n : ℕ) → Finds w (prepareAt size) n → OddIn w → flagOf (pswOf (w .state)) BRK ≡ false → Makes w 1020
-unfolding counted
-prepare-1020 w size n f o e = turns w (prepareAt size) n 1020 f (of-stepping size n (counted w) o e)
+unfolding starting
+prepare-1020 w size n f o e = turns w (prepareAt size) n 1020 f (of-stepping size n (starting (prepareAt size) w) o e)
 
 pub prepare-1028 : (w : World) (size n : ℕ) → Finds w (prepareAt size) n → OddIn w → flagOf (pswOf (w .state)) BRK ≡ true → size % 2 ≡ 0 → size ≤ 65535 → Makes w stepTop
-unfolding counted
-prepare-1028 w size n f o e h l = turns w (prepareAt size) n 1028 f (of-tracing size n (counted w) o e h l)
+unfolding starting
+prepare-1028 w size n f o e h l = turns w (prepareAt size) n 1028 f (of-tracing size n (starting (prepareAt size) w) o e h l)
 
 -- ---- such a machine: PSW F002h is without the single-step trap, F102h with it
 

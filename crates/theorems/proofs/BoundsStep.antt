@@ -24,7 +24,7 @@ use Rattle.sheet.specs.Contract.{Seen, stops, ends, seen, exec}
 use Rattle.sheet.specs.Reading.{Read, known, unknown, scan}
 use Rattle.sheet.specs.FirstByte.{instruction}
 use Rattle.sheet.specs.Execute.{computing, moving, operation, execute}
-use Rattle.sheet.specs.Step.{fits, sound, checked, refusal, codeAt, source, interrupting, singleStep, stepping, counted, decoded, awake, stepBy, step, interruptBy, interrupt}
+use Rattle.sheet.specs.Step.{fits, sound, checked, refusal, codeAt, source, interrupting, singleStep, starting, stepping, decoded, awake, stepBy, step, interruptBy, interrupt}
 use Rattle.sheet.specs.Act.{_>>=_}
 use Rattle.sheet.specs.Traps.{push, pushPsw, pushPsPc, jumpFar, save, trap}
 use Rattle.theorems.specs.Bounds.{Bytes, stepTop, interruptTop, stepRefusals, interruptRefusals, Among, first, later, Comes, ends-in, stops-by}
@@ -95,7 +95,7 @@ reads-fine w h g = scanned instruction of-instruction (source w) (λ j. byte-top
 -- ---- the calls
 
 -- a step that is to be made does the instruction that it finds
-pub step-is : (w : World) (i : Instr) (n : ℕ) → (fits w ≡ true) × (sound w ≡ true) → w .state .marks .halted ≡ false → scan instruction (source w) 0 ≡ known i n → step w ≡ run (stepping i n) (counted w)
+pub step-is : (w : World) (i : Instr) (n : ℕ) → (fits w ≡ true) × (sound w ≡ true) → w .state .marks .halted ≡ false → scan instruction (source w) 0 ≡ known i n → step w ≡ run (stepping i n) (starting i w)
 unfolding step run
 step-is w i n good up there = step-on w good ∙ awake-known w i n up there
 
@@ -128,7 +128,7 @@ unfolding step stepBy awake decoded exec run
 step-comes w h g = checked-comes w (awake kept w) (go (w .state .marks .halted) (scan instruction (source w) 0) (reads-fine w h g))
   where
     go : (t : Bool) (r : Read Instr) → Scanned Fine r → Comes stepTop stepRefusals (seen (pick t (refusal 8) (decoded kept r w)))
-    go false (known i n) (read q) = within-step _ (of-stepping i q n .at (counted w))
+    go false (known i n) (read q) = within-step _ (of-stepping i q n .at (starting i w))
     go false (unknown k n) (unread a b) = stops-by (as-read k a b)
     go true r q = stops-by (later (later first))
 
@@ -144,12 +144,13 @@ ends-most n x m (within h) = h
 
 pub interrupt-comes : (v : ℕ) (maskable : Bool) (w : World) → Comes interruptTop interruptRefusals (seen (interrupt v maskable w))
 unfolding interrupt interruptBy exec run
-interrupt-comes v maskable w = checked-comes w _ (go (maskable && not (flagOf (pswOf (w .state)) IE)) (interrupting-ends v w))
+interrupt-comes v maskable w = checked-comes w _ (go (w .state .marks .loaded) (maskable && not (flagOf (pswOf (w .state)) IE)) (interrupting-ends v w))
   where
-    go : (t : Bool) → (x : World) × (m : Bus) × (exec (interrupting v) w ≡ ends tt x m)
-        → Comes interruptTop interruptRefusals (seen (pick t (refusal 7) (run (interrupting v) w)))
-    go false q = rw (q .2) (ends-in (ends-most 8 _ _ (rw (q .2) at (of-interrupting v .at w))))
-    go true q = stops-by (later (later first))
+    go : (l t : Bool) → (x : World) × (m : Bus) × (exec (interrupting v) w ≡ ends tt x m)
+        → Comes interruptTop interruptRefusals (seen (pick l (refusal 13) (pick t (refusal 7) (run (interrupting v) w))))
+    go false false q = rw (q .2) (ends-in (ends-most 8 _ _ (rw (q .2) at (of-interrupting v .at w))))
+    go false true q = stops-by (later (later (later first)))
+    go true t q = stops-by (later (later first))
 
 -- ---- in one line each
 

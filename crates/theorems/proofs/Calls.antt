@@ -67,4 +67,4 @@ step-done w v b h g e =
 pub interrupt-done : (vector : ℕ) (maskable : Bool) (w v : World) (b : Bus) → interruptReport vector maskable w ≡ report 0 v b → Done (interrupt vector maskable w) v b
 unfolding interruptReport
 interrupt-done vector maskable w v b e =
-    as-done (interrupt vector maskable w) v b (ends-at-zero interruptTop interruptRefusals (lit≤ tt, (lit≤ tt, (lit≤ tt, tt))) w v b (seen (interrupt vector maskable w)) (interrupt-comes vector maskable w) e)
+    as-done (interrupt vector maskable w) v b (ends-at-zero interruptTop interruptRefusals (lit≤ tt, (lit≤ tt, (lit≤ tt, (lit≤ tt, tt)))) w v b (seen (interrupt vector maskable w)) (interrupt-comes vector maskable w) e)

@@ -60,10 +60,14 @@ ready {w = w} h = go (fits w) (sound w) (w .state .marks .halted) refl refl refl
     go true false u a b c = absurd (not-zero 1 h (rw (a, b)))
     go false s u a b c = absurd (not-zero 0 h (rw a))
 
+-- the world in which the instruction's own step begins
+abbrev pub atStart : Block → World → World
+atStart i w = sheet.starting (Blocks (i .kind) (i .word) (i .seg) (i .repeat)) w
+
 -- what is read at PS:PC is what the step does
 pub turned : (w : World) (i : Block) {file ram : List ℕ} {events : List Event} → Ready w
     → scan instruction (source w) 0 ≡ known (Blocks (i .kind) (i .word) (i .seg) (i .repeat)) (i .size)
-    → (made : Turned (i .kind) (i .word) (i .seg) (i .repeat) (i .size) (sheet.counted w) file ram events) → step w ≡ done tt (made .v) (made .t)
+    → (made : Turned (i .kind) (i .word) (i .seg) (i .repeat) (i .size) (atStart i w) file ram events) → step w ≡ done tt (made .v) (made .t)
 turned w i r e made = step-is w _ (i .size) (r .fit, r .good) (r .up) e ∙ made .ran .is
 
 -- ---- calls keep what is lent, and a sound state
@@ -197,7 +201,7 @@ module _ (E : Engine) (F : Faithful E) (i : Block) (w : World) (t : Taken E i w)
 
   -- a step is to be made again
   ready-again : {p j : ℕ} {l : List (E .Shown)} {v : World} → Inv p j l v → Ready v
-  ready-again {v = v} x = record { fit = fits-so _ v (x .lent) (at-first .fit); good = sound-so v (x .sound); up = x .awake }
+  ready-again {v = v} x = record { fit = fits-so _ v (x .lent) (at-first .fit); good = sound-so v (x .sound) (rw (x .awake)); up = x .awake }
 
   -- the instruction is read again
   still-read : {j : ℕ} {l : List (E .Shown)} {v : World} → j ≤ reg w CW → Inv (reg w PC) j l v
@@ -225,7 +229,7 @@ module _ (E : Engine) (F : Faithful E) (i : Block) (w : World) (t : Taken E i w)
     inv : Inv p (suc j) (l ++ (E .of events ∷ [])) u
 
   own-step : {j : ℕ} {l : List (E .Shown)} {v : World} → j < elements i w → Inv (reg w PC) j l v → Next (pcAfter i w j) j l v
-  unfolding sheet.counted shown
+  unfolding sheet.starting sheet.loadsSegment shown
   own-step {j} {l} {v} h x =
       let le = elements-le i w in
       let wide = t .sixteen in
@@ -238,7 +242,7 @@ module _ (E : Engine) (F : Faithful E) (i : Block) (w : World) (t : Taken E i w)
       ) in
       let same = primitive-local K (i .kind) (i .word) (i .seg) f (v .ram) (v .rom) (singles i w j .ram) (singles i w j .rom) (t .blocks) covers (x .memory) in
       let made =
-      element-turn (i .kind) (i .word) (i .seg) (i .repeat) (i .size) c (reg w PC) (sheet.counted v) f (k .long) (x .registers) (k .brk ∙ t .untraced) (t .blocks) (t .repeated)
+      element-turn (i .kind) (i .word) (i .seg) (i .repeat) (i .size) c (reg w PC) (atStart i v) f (k .long) (x .registers) (k .brk ∙ t .untraced) (t .blocks) (t .repeated)
       (ne-eqb c 0 (λ e. omega arith)) in
       let is = turned v i (ready-again x) (still-read (omega arith) x) made in
       let left = step-good (x .sound) is in
@@ -300,11 +304,11 @@ module _ (E : Engine) (F : Faithful E) (i : Block) (w : World) (t : Taken E i w)
   -- CW = 0
   at-zero : reg w CW ≡ 0 → (n : ℕ) (v u : World) (o : E .Shown) → Gap E K w v → E .Step v n u o
       → (n ≡ 0) × (u .state .file ≡ set (w .state .file) PC (past i w)) × (u .ram ≡ v .ram) × (o ≡ E .of [])
-  unfolding sheet.counted singles
+  unfolding sheet.starting sheet.loadsSegment singles
   at-zero z n v u o g s =
       let x = across inv-begun g in
       let here : v .state .file ≡ placed (reg w CW) (reg w PC) (w .state .file) = rw (sub-zero (reg w CW)) at (x .registers) in
-      let made = empty-turn (i .kind) (i .word) (i .seg) (i .repeat) (i .size) (reg w CW) (reg w PC) (sheet.counted v) (w .state .file) (t .whole) here (t .untraced) (t .repeated) (rw z) in
+      let made = empty-turn (i .kind) (i .word) (i .seg) (i .repeat) (i .size) (reg w CW) (reg w PC) (atStart i v) (w .state .file) (t .whole) here (t .untraced) (t .repeated) (rw z) in
       let is = turned v i (ready-again x) (still-read (omega arith) x) made in
       let a = answered E F s is in (
         a .zero-is,

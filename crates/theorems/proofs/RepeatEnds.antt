@@ -12,9 +12,9 @@ use Rattle.sheet.specs.Memory.{physical, next, writeMem}
 use Rattle.sheet.specs.World.{World}
 use Rattle.sheet.specs.Act.{Act}
 use Rattle.sheet.specs.Handler.{Event, done, kept, runBy}
-use Rattle.sheet.specs.Step.{counted, stepping, step, interrupting, interrupt}
+use Rattle.sheet.specs.Step.{starting, stepping, step, interrupting, interrupt}
 use Rattle.sheet.proofs.Lent.{Kept, Sound, Good, keeps-all, good-kept}
-use Rattle.sheet.proofs.StepLaws.{sound-is, begins, enters, counted-sound}
+use Rattle.sheet.proofs.StepLaws.{sound-is, begins, enters, starting-sound}
 use Rattle.theorems.specs.Bounds.{Bytes}
 use Rattle.theorems.specs.Repeat as statement
 use Rattle.theorems.specs.Repeat.{Block, elements, Engine, Call, stepped, interrupted, Calls, no-call, and-then, Gap, quiet, service, Own, begun, next-own, Taken}
@@ -60,10 +60,10 @@ tree-bytes p w v t s b e =
     left-of (rw e at (keeps-all (GoodBytes w) (bytes-kept w) p kept w (record { good = good-itself s; bytes = b }))) .bytes
 
 step-bytes : {w v : World} {t : List Event} → Sound w → Bytes (w .ram) → step w ≡ done tt v t → Bytes (v .ram)
-unfolding step counted
+unfolding step starting
 step-bytes {w} {v} {t} s b e =
     let a = begins kept w v t e in
-    tree-bytes (stepping (a .instr) (a .size)) (counted w) v t (counted-sound w s) b (a .ran)
+    tree-bytes (stepping (a .instr) (a .size)) (starting (a .instr) w) v t (starting-sound (a .instr) w s) b (a .ran)
 
 interrupt-bytes : (x : ℕ) (m : Bool) {w v : World} {t : List Event} → Sound w → Bytes (w .ram) → interrupt x m w ≡ done tt v t → Bytes (v .ram)
 unfolding interrupt

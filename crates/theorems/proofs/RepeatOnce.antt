@@ -16,7 +16,7 @@ use Rattle.sheet.specs.Step as sheet
 use Rattle.sheet.specs.Step.{source, step}
 use Rattle.theorems.specs.Repeat.{Block, ofMemory, single, left, singles, reg, past, placed}
 use Rattle.theorems.specs.RepeatEngines.{accesses}
-use Rattle.theorems.proofs.Repeat.{Ready, turned}
+use Rattle.theorems.proofs.Repeat.{Ready, atStart, turned}
 use Rattle.theorems.proofs.RepeatFile.{placed-back, placed-pc}
 use Rattle.theorems.proofs.RepeatPrimitive.{fileAfter}
 use Rattle.theorems.proofs.RepeatSingles.{single-is, singles-keep}
@@ -33,10 +33,10 @@ pub record DoesOnce (i : Block) (w : World) : Type 0 where
 
 pub single-steps : (i : Block) (w : World) → scan instruction (source w) 0 ≡ known (Blocks (i .kind) (i .word) (i .seg) (i .repeat)) (i .size)
     → ofMemory (i .kind) ≡ true → i .repeat ≡ Once → Ready w → length (w .state .file) ≡ 14 → flagOf (pswOf (w .state)) BRK ≡ false → DoesOnce i w
-unfolding sheet.counted singles
+unfolding sheet.starting sheet.loadsSegment singles
 single-steps i w read m once ready long clear =
     let made =
-    single-turn (i .kind) (i .word) (i .seg) (i .repeat) (i .size) (reg w CW) (reg w PC) (sheet.counted w) (w .state .file) long (sym (placed-back (w .state .file) long)) clear m once in
+    single-turn (i .kind) (i .word) (i .seg) (i .repeat) (i .size) (reg w CW) (reg w PC) (atStart i w) (w .state .file) long (sym (placed-back (w .state .file) long)) clear m once in
     let one = single-is i w m w in
     let k = singles-keep i w m long 1 in
     let f : List ℕ = left w (single i w) .state .file in

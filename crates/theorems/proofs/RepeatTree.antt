@@ -20,7 +20,7 @@ use Rattle.sheet.specs.Block.{primitive, goesOn, goesOnAfter, afterElement, ele
 use Rattle.sheet.specs.Branch.{countDown}
 use Rattle.sheet.specs.Traps.{untrapped}
 use Rattle.sheet.specs.Execute.{operation, execute}
-use Rattle.sheet.specs.Step.{singleStep, stepping}
+use Rattle.sheet.specs.Step.{loadsSegment, singleStep, stepping}
 use Rattle.portlog.proofs.Picked.{picked}
 use Rattle.theorems.specs.Repeat.{kindOf, repeats, meets, ends}
 use Rattle.theorems.specs.RepeatEngines.{accesses}
@@ -146,10 +146,10 @@ moved n w = withWords w (set (w .state .file) PC (add16 (getD (w .state .file) P
 
 pub stepping-run : (k : Primitive) (b : Bool) (seg : ℕ) (q : Repeat) (n : ℕ) {w v : World} {t : List Event} → flagOf (pswOf (w .state)) BRK ≡ false
     → Runs Unit (block k b seg q (getD (w .state .file) PC 0)) (moved n w) tt v t → Runs Unit (stepping (Blocks k b seg q) n) w tt v (around t)
-unfolding stepping execute operation untrapped singleStep
+unfolding loadsSegment stepping execute operation untrapped singleStep
 stepping-run k b seg q n {w} {v} e h =
     let start : ℕ = getD (w .state .file) PC 0 in
-    runs-then (λ traced. execute (Blocks k b seg q) n >>= λ trapped. singleStep (traced && not trapped)) (brk-run w)
+    runs-then (λ traced. execute (Blocks k b seg q) n >>= λ trapped. singleStep ((traced && not false) && not trapped)) (brk-run w)
     (rw e
     (runs-then (λ trapped. singleStep (false && not trapped))
     (runs-then (λ r. PC ≔ add16 (r PC) n >>= λ _. operation (Blocks k b seg q) (r PC)) (registers-run w)

@@ -12,6 +12,7 @@ use Rattle.sheet.specs.Handler.{Event, Outcome, refused, done, kept, _⊕_, tal
 use Rattle.sheet.specs.Step.{fits, sound, step}
 use Rattle.sheet.specs.Run.{Ran, ran, more, onward, stepsBy, runsBy, runs, runReported, ranReport}
 use Rattle.theorems.specs.Runs.{Walk, none, step-then, RunOf, unfit, unsound, spent, stopped, after}
+use Rattle.sheet.proofs.MarkLaws.{step-unmixed}
 use Rattle.engine.proofs.RunLaws.{tally-both, sound-so, fits-so, runs-on}
 use Rattle.sheet.proofs.StepLaws.{step-leaves}
 
@@ -131,7 +132,7 @@ unfolding step
 steps-leave zero w v t n f s none = (f, s)
 steps-leave (suc k) w v t n f s (step-then {u = u} {s = q} {t = r} e g) =
     let l = step-leaves kept w u q n e in
-    steps-leave k u v r (l .sound .whole) (fits-so w u (l .lent) f) (sound-so u (l .sound)) g
+    steps-leave k u v r (l .sound .whole) (fits-so w u (l .lent) f) (sound-so u (l .sound) (step-unmixed kept w u q n e)) g
 
 -- where the first a steps are all done, b more from where they lead make up a run of a + b
 split-good : (a b : ℕ) (w v : World) (n : ℕ) (t : List Event) → length (w .state .file) ≡ 14 → fits w ≡ true → sound w ≡ true → runs a w ≡ ran n v a t

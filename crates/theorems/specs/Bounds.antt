@@ -30,7 +30,7 @@ abbrev pub stepRefusals : List ℕ
 stepRefusals = 1 ∷ 2 ∷ 8 ∷ 3 ∷ 4 ∷ 5 ∷ 6 ∷ []
 
 abbrev pub interruptRefusals : List ℕ
-interruptRefusals = 1 ∷ 2 ∷ 7 ∷ []
+interruptRefusals = 1 ∷ 2 ∷ 13 ∷ 7 ∷ []
 
 -- a number is on a list
 pub data Among (k : ℕ) : List ℕ → Type 0 where

@@ -7,7 +7,7 @@ use lib.ListN.{length}
 use lib.Dec.{eqb, leb}
 use Rattle.sheet.specs.declared.Bus.{Bus}
 use Rattle.sheet.specs.declared.Entry.{Entry}
-use Rattle.sheet.specs.World.{World, world}
+use Rattle.sheet.specs.World.{World, world, marksOf}
 use Rattle.sheet.specs.Contract.{Report, report}
 use Rattle.sheet.specs.Log.{rule, readLog}
 use Rattle.sheet.specs.Step.{stepReport, interruptReport}
@@ -68,7 +68,7 @@ cyclesOf (runReported n w k b) = b .cycles
 -- ---- three machines: SUB4S, ADJ4A (document 01's second and first example), and one that is halted
 
 abbrev pub machine : List ℕ → Bool → ℕ → List ℕ → World
-machine file halted count ram = world (record { file = file; marks = record { halted = halted }; progress = record { tape = 0; log = 0; count = count } }) ram [] [] []
+machine file halted count ram = world (record { file = file; marks = marksOf halted false; progress = record { tape = 0; log = 0; count = count } }) ram [] [] []
 
 abbrev pub subtracting : World
 subtracting =
