@@ -26,3 +26,4 @@ pub mod CallsCode
 pub mod Runs
 pub mod RunsStandIns
 pub mod RunsCode
+pub mod HeldOff
