@@ -5,8 +5,24 @@ use crate::portlog::Record;
 use crate::refusal::Refusal;
 use crate::state::{State, BRK, COUNT_LIMIT, IE, PS, SP, SS};
 use crate::width::Width;
+use std::ops::AddAssign;
 
 const SINGLE_STEP_VECTOR: u8 = 1;
+
+/// What the accesses of a call come to.
+#[derive(Clone, Copy, Debug, Default, PartialEq, Eq)]
+pub struct Tally {
+    pub bus_cycles: u32,
+    /// Bytes that were written where no RAM is, at each write anew.
+    pub dropped_bytes: u32,
+}
+
+impl AddAssign for Tally {
+    fn add_assign(&mut self, other: Tally) {
+        self.bus_cycles += other.bus_cycles;
+        self.dropped_bytes += other.dropped_bytes;
+    }
+}
 
 /// Whether an instruction was done or why it was refused.
 pub(crate) type Outcome = Result<(), Refusal>;
@@ -35,7 +51,7 @@ pub(crate) struct Now {
     pub prefixes: u32,
     pub segment_prefix: Option<usize>,
     pub repeat: Option<GoOnWhile>,
-    bus_cycles: u32,
+    tally: Tally,
     recorded: bool,
     trapped: bool,
     /// How many bytes the instruction has, for tests alone.
@@ -50,7 +66,7 @@ impl Now {
             prefixes: 0,
             segment_prefix: None,
             repeat: None,
-            bus_cycles: 0,
+            tally: Tally::default(),
             recorded: false,
             trapped: false,
             #[cfg(test)]
@@ -64,7 +80,7 @@ pub struct RunReport {
     /// Why the run stopped before its budget was spent.
     pub refusal: Option<Refusal>,
     pub steps: u32,
-    pub bus_cycles: u32,
+    pub tally: Tally,
 }
 
 impl<'a> Machine<'a> {
@@ -89,8 +105,8 @@ impl<'a> Machine<'a> {
         self.state = State::after_reset();
     }
 
-    /// Does one instruction and gives its bus cycles; a refusal changes nothing.
-    pub fn step(&mut self) -> Result<u32, Refusal> {
+    /// Does one instruction and gives its tally; a refusal changes nothing.
+    pub fn step(&mut self) -> Result<Tally, Refusal> {
         self.check_what_was_lent()?;
         self.step_of_a_good_state()
     }
@@ -99,14 +115,14 @@ impl<'a> Machine<'a> {
         let mut report = RunReport {
             refusal: self.check_what_was_lent().err(),
             steps: 0,
-            bus_cycles: 0,
+            tally: Tally::default(),
         };
         while report.refusal.is_none() && report.steps < u32::from(budget) {
             // a finished step leaves a good state, so it need not be checked again
             match self.step_of_a_good_state() {
-                Ok(bus_cycles) => {
+                Ok(tally) => {
                     report.steps += 1;
-                    report.bus_cycles += bus_cycles;
+                    report.tally += tally;
                 }
                 Err(refusal) => report.refusal = Some(refusal),
             }
@@ -114,8 +130,8 @@ impl<'a> Machine<'a> {
         report
     }
 
-    /// Enters an interrupt and gives its bus cycles; a refusal changes nothing.
-    pub fn interrupt(&mut self, vector: u8, may_be_masked: bool) -> Result<u32, Refusal> {
+    /// Enters an interrupt and gives its tally; a refusal changes nothing.
+    pub fn interrupt(&mut self, vector: u8, may_be_masked: bool) -> Result<Tally, Refusal> {
         self.check_what_was_lent()?;
         if may_be_masked && !self.state.flag(IE) {
             return Err(Refusal::InterruptMasked);
@@ -124,7 +140,7 @@ impl<'a> Machine<'a> {
         self.trap(vector);
         self.state.pc = self.now.next_pc;
         self.state.halted = false;
-        Ok(self.now.bus_cycles)
+        Ok(self.now.tally)
     }
 
     fn check_what_was_lent(&self) -> Outcome {
@@ -143,7 +159,7 @@ impl<'a> Machine<'a> {
         }
     }
 
-    fn step_of_a_good_state(&mut self) -> Result<u32, Refusal> {
+    fn step_of_a_good_state(&mut self) -> Result<Tally, Refusal> {
         if self.state.halted {
             return Err(Refusal::MachineHalted);
         }
@@ -160,7 +176,7 @@ impl<'a> Machine<'a> {
         } else {
             COUNT_LIMIT.min(self.state.count + 1)
         };
-        Ok(self.now.bus_cycles)
+        Ok(self.now.tally)
     }
 
     pub(crate) fn trap(&mut self, vector: u8) {
@@ -201,13 +217,13 @@ impl<'a> Machine<'a> {
     }
 
     pub(crate) fn load<W: Width>(&mut self, segment: u16, offset: u16) -> W {
-        self.now.bus_cycles += W::bus_cycles(offset);
+        self.now.tally.bus_cycles += W::bus_cycles(offset);
         W::read(&self.memory, segment, offset)
     }
 
     pub(crate) fn store<W: Width>(&mut self, segment: u16, offset: u16, value: W) {
-        self.now.bus_cycles += W::bus_cycles(offset);
-        W::write(&mut self.memory, segment, offset, value);
+        self.now.tally.bus_cycles += W::bus_cycles(offset);
+        self.now.tally.dropped_bytes += W::write(&mut self.memory, segment, offset, value);
     }
 
     pub(crate) fn push(&mut self, word: u16) {
@@ -249,7 +265,7 @@ impl<'a> Machine<'a> {
         let length = record.write(&mut self.log[self.state.log_place as usize..])?;
         self.state.log_place += length as u32;
         self.now.recorded = true;
-        self.now.bus_cycles += W::bus_cycles(port);
+        self.now.tally.bus_cycles += W::bus_cycles(port);
         Ok(())
     }
 }

@@ -44,19 +44,24 @@ impl<'a> Memory<'a> {
         u16::from_le_bytes([low, high])
     }
 
-    /// Drops what does not fall into RAM.
+    /// Drops a byte that does not fall into RAM, and says how many it dropped.
     #[inline]
-    pub fn write_byte(&mut self, segment: u16, offset: u16, value: u8) {
-        if let Some(byte) = self.ram.get_mut(address(segment, offset)) {
-            *byte = value;
+    pub fn write_byte(&mut self, segment: u16, offset: u16, value: u8) -> u32 {
+        match self.ram.get_mut(address(segment, offset)) {
+            Some(byte) => {
+                *byte = value;
+                0
+            }
+            None => 1,
         }
     }
 
+    /// Each half falls into RAM or is dropped by itself.
     #[inline]
-    pub fn write_word(&mut self, segment: u16, offset: u16, value: u16) {
+    pub fn write_word(&mut self, segment: u16, offset: u16, value: u16) -> u32 {
         let [low, high] = value.to_le_bytes();
-        self.write_byte(segment, offset, low);
-        self.write_byte(segment, offset.wrapping_add(1), high);
+        self.write_byte(segment, offset, low)
+            + self.write_byte(segment, offset.wrapping_add(1), high)
     }
 }
 

@@ -11,6 +11,7 @@ pub struct Played {
     pub refusal: Option<Refusal>,
     pub steps: u64,
     pub bus_cycles: u64,
+    pub dropped_bytes: u64,
     pub log: Vec<u8>,
 }
 
@@ -41,6 +42,7 @@ pub fn play(rom: &[u8], tape: &[u8], ram_bytes: usize, steps: u64) -> Played {
         refusal: None,
         steps: 0,
         bus_cycles: 0,
+        dropped_bytes: 0,
         log: Vec::new(),
     };
     let mut machine = Machine::new(State::after_reset(), &mut ram, rom, tape, &mut log);
@@ -49,7 +51,8 @@ pub fn play(rom: &[u8], tape: &[u8], ram_bytes: usize, steps: u64) -> Played {
         let report = machine.run(budget);
         played.refusal = report.refusal;
         played.steps += u64::from(report.steps);
-        played.bus_cycles += u64::from(report.bus_cycles);
+        played.bus_cycles += u64::from(report.tally.bus_cycles);
+        played.dropped_bytes += u64::from(report.tally.dropped_bytes);
         if played.refusal.is_some() || played.steps == steps {
             break;
         }

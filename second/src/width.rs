@@ -16,7 +16,8 @@ pub trait Width: Copy + Eq {
     fn set_register(state: &mut State, code: usize, value: Self);
 
     fn read(memory: &Memory, segment: u16, offset: u16) -> Self;
-    fn write(memory: &mut Memory, segment: u16, offset: u16, value: Self);
+    /// Says how many bytes were dropped.
+    fn write(memory: &mut Memory, segment: u16, offset: u16, value: Self) -> u32;
 
     /// Bus cycles of one access at an address or port.
     fn bus_cycles(place: u16) -> u32;
@@ -54,8 +55,8 @@ impl Width for u8 {
         memory.read_byte(segment, offset)
     }
 
-    fn write(memory: &mut Memory, segment: u16, offset: u16, value: u8) {
-        memory.write_byte(segment, offset, value);
+    fn write(memory: &mut Memory, segment: u16, offset: u16, value: u8) -> u32 {
+        memory.write_byte(segment, offset, value)
     }
 
     fn bus_cycles(_place: u16) -> u32 {
@@ -91,8 +92,8 @@ impl Width for u16 {
         memory.read_word(segment, offset)
     }
 
-    fn write(memory: &mut Memory, segment: u16, offset: u16, value: u16) {
-        memory.write_word(segment, offset, value);
+    fn write(memory: &mut Memory, segment: u16, offset: u16, value: u16) -> u32 {
+        memory.write_word(segment, offset, value)
     }
 
     fn bus_cycles(place: u16) -> u32 {

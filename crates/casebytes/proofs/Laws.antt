@@ -1,6 +1,6 @@
 -- What the turns of the loops come to. Assumes nothing.
 use Prim.Native.Nat.{ℕ, _+_, _*_, _^_, _<_, _≤_}
-use mathlib.Core.Bool.{Bool, true, false, cond}
+use mathlib.Core.Bool.{Bool, true, false, cond, _&&_}
 use mathlib.Core.List.{List, [], _∷_, _++_}
 use mathlib.Core.Path.{_≡_, refl, sym, ap, _∙_}
 use native.Mathlib.Nat.{le-antisymm}
@@ -8,11 +8,11 @@ use native.Mathlib.Numerals.{add-one}
 use native.Mathlib.Omega.{arith}
 use lib.ListN.{length, getD, take, drop, set, replicate, length-set, replicate-append-replicate, drop-of-length-le}
 use lib.Seq.{take-suc-set, take-all, drop-cons}
-use lib.Dec.{eqb}
+use lib.Dec.{eqb, leb}
 use lib.Bits.{bitXor, xor-lt}
 use borrow.Author.Tests.{eq-eqb, ne-eqb}
 use Rattle.casebytes.specs.Numbers.{doubleAt}
-use Rattle.casebytes.specs.Buffers.{mixed, sumOf, patchedAt, patched}
+use Rattle.casebytes.specs.Buffers.{mixed, sumOf, patchedAt, patched, kindsOf}
 
 -- one byte more is filled
 pub filled : (l : List ℕ) (i v : ℕ) → i < length l → take i l ≡ replicate i v → take (i + 1) (set l i v) ≡ replicate (i + 1) v
@@ -29,6 +29,11 @@ summed l i x s h e = rw (add-one i) (rw (drop-cons l i 0 h) at e)
 pub all-summed : (l : List ℕ) (i x s : ℕ) → length l ≤ i → sumOf x (drop i l) ≡ s → x ≡ s
 unfolding sumOf
 all-summed l i x s h e = rw (drop-of-length-le l {i = i} h) at e
+
+-- one kind more is looked at
+pub kinds-more : (patches : List ℕ) (i : ℕ) (good : Bool) → good ≡ kindsOf patches i → (good && leb (getD patches (i * 6) 0) 2) ≡ kindsOf patches (i + 1)
+unfolding kindsOf
+kinds-more patches i good e = rw (add-one i, e)
 
 -- a patch keeps a buffer's length
 pub patched-length : (kind : ℕ) (patches : List ℕ) (at : ℕ) (l : List ℕ) → length (patchedAt kind patches at l) ≡ length l

@@ -1,9 +1,9 @@
 -- What a case's buffers hold: sums and patches.
 use Prim.Native.Nat.{ℕ, zero, suc, _+_, _*_, _%_}
-use mathlib.Core.Bool.{cond}
+use mathlib.Core.Bool.{Bool, true, cond, _&&_}
 use mathlib.Core.List.{List, [], _∷_}
 use lib.ListN.{getD, set}
-use lib.Dec.{eqb}
+use lib.Dec.{eqb, leb}
 use lib.Bits.{bitXor}
 use Rattle.casebytes.specs.Numbers.{doubleAt}
 
@@ -14,6 +14,11 @@ mixed sum byte = bitXor sum byte * 16777619 % 4294967296
 unfoldable pub sumOf : ℕ → List ℕ → ℕ
 sumOf sum [] = sum
 sumOf sum (byte ∷ bytes) = sumOf (mixed sum byte) bytes
+
+-- whether so many patches are of the kinds 0 RAM, 1 ROM, 2 log
+unfoldable pub kindsOf : List ℕ → ℕ → Bool
+kindsOf patches zero = true
+kindsOf patches (suc n) = kindsOf patches n && leb (getD patches (n * 6) 0) 2
 
 -- a buffer after the patch at a place: kind, index, value; a patch of another kind, or one past the end, changes nothing
 unfoldable pub patchedAt : ℕ → List ℕ → ℕ → List ℕ → List ℕ

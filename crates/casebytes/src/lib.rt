@@ -3,7 +3,7 @@ ghost use mathlib.Core.Path.{_≡_};
 ghost use Prim.Native.Nat.{_+_, _*_, _≤_};
 ghost use lib.ListN.{length, replicate, set};
 ghost use Rattle.casebytes.specs.Numbers.{wordOf, wordAt, doubleOf, doubleAt, wordPut, doublePut};
-ghost use Rattle.casebytes.specs.Buffers.{mixed, sumOf, patchedAt, patched};
+ghost use Rattle.casebytes.specs.Buffers.{mixed, sumOf, patchedAt, patched, kindsOf};
 
 // ---- numbers, the lowest byte first
 
@@ -104,6 +104,20 @@ fn patch(buffer: &mut [u8], kind: u8, patches: &[u8], at: usize)
         let value = patches[at + 5];
         put(buffer, index, value);
     }
+}
+
+// Whether the first n patches are of a kind that there is.
+pub fn kinds(patches: &[u8], n: usize) -> bool
+    requires { ⌜ n * 6 ≤ length (now patches) ⌝ }
+    ensures { λ r. ⌜ r ≡ kindsOf (now (patches .entry)) n ⌝ }
+{
+    let mut good = true;
+    let mut i = 0;
+    while i < n {
+        good = good & (patches[i * 6] <= 2);
+        i += 1;
+    }
+    good
 }
 
 // The first n patches, as far as they are of the kind.

@@ -83,7 +83,7 @@ fn reset() -> Done
         number: 0,
         steps: 0,
         state,
-        bus: Bus { cycles: 0 },
+        bus: tally::none(),
     }
 }
 
@@ -101,14 +101,15 @@ pub fn called(s: State, ram: &mut [u8], rom: &[u8], tape: &[u8], log: &mut [u8],
 }
 
 // The bytes for what a call came to, with the sums of RAM and log after it.
-fn bytes_of(d: Done, ram: &[u8], log: &[u8]) -> [u8; 58]
+fn bytes_of(d: Done, ram: &[u8], log: &[u8]) -> [u8; 88]
     ensures { λ r. ⌜ r ≡ bytesOf d (now (ram .entry)) (now (log .entry)) ⌝ }
 {
     let state = d.state;
+    let bus = d.bus;
     let of_ram = casebytes::sum(ram);
     let of_log = casebytes::sum(log);
-    let mut out = [0; 58];
-    caseform::put_call(&mut out, d.number, d.steps, d.bus.cycles, state);
+    let mut out = [0; 88];
+    caseform::put_call(&mut out, d.number, d.steps, bus, state);
     caseform::put_sums(&mut out, of_ram, of_log);
     out
 }
@@ -121,7 +122,7 @@ pub fn result(
     tape: &[u8],
     log: &mut [u8],
     c: Case,
-) -> [u8; 58]
+) -> [u8; 88]
     ensures { λ r. ⌜ Result c s (now (ram .entry)) (now (rom .entry)) (now (tape .entry)) (now (log .entry)) (now (ram .exit)) (now (log .exit)) r ⌝ }
 {
     let d = called(s, ram, rom, tape, log, c);

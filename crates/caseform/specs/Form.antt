@@ -1,16 +1,23 @@
 -- Where a case's header and its results have their fields.
 use Prim.Native.Nat.{ℕ, zero, suc, _+_, _*_, _%_}
-use mathlib.Core.Bool.{Bool, not}
+use mathlib.Core.Bool.{Bool, not, _&&_}
 use mathlib.Core.List.{List}
 use lib.ListN.{getD, set, replicate}
-use lib.Dec.{eqb, ltb}
+use lib.Dec.{eqb, leb, ltb}
 use mir.Val.{boolByte}
 use Rattle.sheet.specs.Width.{pick}
 use Rattle.sheet.specs.declared.State.{State}
+use Rattle.sheet.specs.declared.Bus.{Bus}
 use Rattle.sheet.specs.declared.Entry.{Entry}
 use Rattle.sheet.specs.declared.Entry.the-variants.{Record, End, Malformed, Beyond}
 use Rattle.casebytes.specs.Numbers.{wordAt, doubleAt, wordPut, doublePut}
 use Rattle.caseform.specs.declared.Case.{Case}
+
+-- the rules for a header's bytes: call, halted and masking; zero in the mark, the permission and the gap rule, whose requests are not
+-- built, in the flags marked undefined, and in the last six bytes
+unfoldable pub goodHeader : List ℕ → Bool
+goodHeader header =
+    leb (getD header 0 0) 4 && (leb (getD header 1 0) 1 && (leb (getD header 2 0) 1 && (eqb (getD header 61 0) 0 && (eqb (getD header 62 0) 0 && (eqb (getD header 63 0) 0 && (eqb (wordAt header 64) 0 && (eqb (wordAt header 66) 0 && eqb (doubleAt header 68) 0)))))))
 
 -- where the register file has the stream's register i: eight general ones, PS, SS, DS0, DS1, PC, PSW
 unfoldable pub placeOf : ℕ → ℕ
@@ -44,9 +51,13 @@ caseOf header =
       fill = getD header 60 0;
     }
 
--- a result with the answer, the halted mark, the steps done and the bus cycles put in
-unfoldable pub withAnswer : ℕ → Bool → ℕ → ℕ → List ℕ → List ℕ
-withAnswer number halted steps cycles l = doublePut (doublePut (set (set l 0 number) 1 (boolByte halted)) 2 steps) 6 cycles
+-- a result with the answer, the halted mark and the steps done put in
+unfoldable pub withAnswer : ℕ → Bool → ℕ → List ℕ → List ℕ
+withAnswer number halted steps l = doublePut (set (set l 0 number) 1 (boolByte halted)) 2 steps
+
+-- with the bus cycles put in, and the dropped bytes, which nobody counts yet
+unfoldable pub withTally : Bus → List ℕ → List ℕ
+withTally bus l = doublePut (doublePut l 6 (bus .cycles)) 58 0
 
 -- with the first registers of a file put in, from byte 10 on
 unfoldable pub withFile : List ℕ → ℕ → List ℕ → List ℕ
@@ -57,8 +68,9 @@ withFile file (suc i) l = wordPut (withFile file i l) (10 + i * 2) (getD file (p
 unfoldable pub withPlaces : ℕ → ℕ → ℕ → List ℕ → List ℕ
 withPlaces tape log count l = doublePut (doublePut (doublePut l 38 (tape % 4294967296)) 42 (log % 4294967296)) 46 count
 
-unfoldable pub withCall : ℕ → ℕ → ℕ → State → List ℕ → List ℕ
-withCall number steps cycles s l = withPlaces (s .progress .tape) (s .progress .log) (s .progress .count) (withFile (s .file) 14 (withAnswer number (s .marks .halted) steps cycles l))
+unfoldable pub withCall : ℕ → ℕ → Bus → State → List ℕ → List ℕ
+withCall number steps bus s l =
+    withPlaces (s .progress .tape) (s .progress .log) (s .progress .count) (withFile (s .file) 14 (withTally bus (withAnswer number (s .marks .halted) steps l)))
 
 -- with the sums of RAM and log put in
 unfoldable pub withSums : ℕ → ℕ → List ℕ → List ℕ

@@ -3,15 +3,31 @@ use casebytes::double_at;
 use casebytes::put_double;
 use casebytes::put_word;
 use casebytes::word_at;
+use sheet::Bus;
 use sheet::Entry;
 use sheet::Marks;
 use sheet::Progress;
 use sheet::State;
 ghost use mathlib.Core.Path.{_≡_};
 ghost use Prim.Native.Nat.{_<_};
-ghost use Rattle.caseform.specs.Form.{placeOf, fileOf, stateOf, caseOf, withFile, withAnswer, withPlaces, withCall, withSums, withRecord, withEntry};
+ghost use Rattle.caseform.specs.Form.{placeOf, goodHeader, fileOf, stateOf, caseOf, withFile, withAnswer, withTally, withPlaces, withCall, withSums, withRecord, withEntry};
 
 // ---- the header
+
+// Whether it keeps the rules of the stream, the limits of its lengths apart.
+pub fn good_header(header: &[u8; 72]) -> bool
+    ensures { λ r. ⌜ r ≡ goodHeader (now (header .entry)) ⌝ }
+{
+    let undefined = word_at(header, 64);
+    let low = word_at(header, 66);
+    let high = double_at(header, 68);
+    (header[0] <= 4)
+        & ((header[1] <= 1)
+            & ((header[2] <= 1)
+                & ((header[61] == 0)
+                    & ((header[62] == 0)
+                        & ((header[63] == 0) & ((undefined == 0) & ((low == 0) & (high == 0))))))))
+}
 
 // The registers stand in the stream as AW CW DW BW SP BP IX IY PS SS DS0 DS1 PC PSW: where the register file has each.
 fn place(i: usize) -> usize
@@ -31,7 +47,7 @@ fn place(i: usize) -> usize
 }
 
 // The registers of a header.
-fn file_of(header: &[u8; 64]) -> [u16; 14]
+fn file_of(header: &[u8; 72]) -> [u16; 14]
     ensures { λ r. ⌜ r ≡ fileOf (now (header .entry)) 14 ⌝ }
 {
     let mut file = [0; 14];
@@ -45,7 +61,7 @@ fn file_of(header: &[u8; 64]) -> [u16; 14]
 }
 
 // The state of a header.
-pub fn state_of(header: &[u8; 64]) -> State
+pub fn state_of(header: &[u8; 72]) -> State
     ensures { λ r. ⌜ r ≡ stateOf (now (header .entry)) ⌝ }
 {
     let file = file_of(header);
@@ -79,7 +95,7 @@ pub struct Case {
     pub fill: u8,
 }
 
-pub fn case_of(header: &[u8; 64]) -> Case
+pub fn case_of(header: &[u8; 72]) -> Case
     ensures { λ r. ⌜ r ≡ caseOf (now (header .entry)) ⌝ }
 {
     let budget = word_at(header, 4);
@@ -104,16 +120,23 @@ pub fn case_of(header: &[u8; 64]) -> Case
 
 // ---- the result of a call on the machine
 
-fn put_answer(out: &mut [u8; 58], number: u8, halted: bool, steps: u32, cycles: u32)
-    ensures { λ _. ⌜ now (out .exit) ≡ withAnswer number halted steps cycles (now (out .entry)) ⌝ }
+fn put_answer(out: &mut [u8; 88], number: u8, halted: bool, steps: u32)
+    ensures { λ _. ⌜ now (out .exit) ≡ withAnswer number halted steps (now (out .entry)) ⌝ }
 {
     out[0] = number;
     out[1] = halted as u8;
     put_double(out, 2, steps);
-    put_double(out, 6, cycles);
 }
 
-fn put_file(out: &mut [u8; 58], file: &[u16; 14])
+// Bus cycles and dropped bytes.
+fn put_tally(out: &mut [u8; 88], bus: Bus)
+    ensures { λ _. ⌜ now (out .exit) ≡ withTally bus (now (out .entry)) ⌝ }
+{
+    put_double(out, 6, bus.cycles);
+    put_double(out, 58, 0);
+}
+
+fn put_file(out: &mut [u8; 88], file: &[u16; 14])
     ensures { λ _. ⌜ now (out .exit) ≡ withFile (now (file .entry)) 14 (now (out .entry)) ⌝ }
 {
     let mut i = 0;
@@ -125,7 +148,7 @@ fn put_file(out: &mut [u8; 58], file: &[u16; 14])
 }
 
 // Places have 32 bits in a stream.
-fn put_places(out: &mut [u8; 58], tape: usize, log: usize, count: u32)
+fn put_places(out: &mut [u8; 88], tape: usize, log: usize, count: u32)
     ensures { λ _. ⌜ now (out .exit) ≡ withPlaces tape log count (now (out .entry)) ⌝ }
 {
     put_double(out, 38, (tape % 4294967296) as u32);
@@ -134,16 +157,17 @@ fn put_places(out: &mut [u8; 58], tape: usize, log: usize, count: u32)
 }
 
 // All but the sums.
-pub fn put_call(out: &mut [u8; 58], number: u8, steps: u32, cycles: u32, s: State)
-    ensures { λ _. ⌜ now (out .exit) ≡ withCall number steps cycles s (now (out .entry)) ⌝ }
+pub fn put_call(out: &mut [u8; 88], number: u8, steps: u32, bus: Bus, s: State)
+    ensures { λ _. ⌜ now (out .exit) ≡ withCall number steps bus s (now (out .entry)) ⌝ }
 {
-    put_answer(out, number, s.marks.halted, steps, cycles);
+    put_answer(out, number, s.marks.halted, steps);
+    put_tally(out, bus);
     let file = s.file;
     put_file(out, &file);
     put_places(out, s.progress.tape, s.progress.log, s.progress.count);
 }
 
-pub fn put_sums(out: &mut [u8; 58], ram: u32, log: u32)
+pub fn put_sums(out: &mut [u8; 88], ram: u32, log: u32)
     ensures { λ _. ⌜ now (out .exit) ≡ withSums ram log (now (out .entry)) ⌝ }
 {
     put_double(out, 50, ram);

@@ -8,7 +8,7 @@ use libc::STDOUT_FILENO;
 use sheet::State;
 
 // An array's length is known where it is lent as one.
-fn write_result(out: &[u8; 58]) -> bool {
+fn write_result(out: &[u8; 88]) -> bool {
     write_all(STDOUT_FILENO, out)
 }
 
@@ -47,6 +47,9 @@ fn serve(
     if !read_whole(tape) {
         return false;
     }
+    if !casebytes::kinds(patches, patches.len() / 6) {
+        return unfit();
+    }
     casecall::lay_out(ram, c.fill, 0, patches);
     casecall::lay_out(rom, c.fill, 1, patches);
     casecall::lay_out(log, c.fill, 2, patches);
@@ -56,12 +59,12 @@ fn serve(
 fn unfit() -> bool {
     write_all(
         STDERR_FILENO,
-        b"cases: the stream ends here: a case does not fit\n",
+        b"cases: the stream ends here: a case breaks its rules\n",
     );
     false
 }
 
-// The case of a header, unless it does not fit the buffers or names no call.
+// The case of a header, unless it does not fit the buffers.
 fn lend(
     s: State,
     ram: &mut [u8],
@@ -82,7 +85,7 @@ fn lend(
     if tape.len() < t || log.len() < l {
         return unfit();
     }
-    if patches.len() / 6 < p || 4 < c.call {
+    if patches.len() / 6 < p {
         return unfit();
     }
     serve(
@@ -104,9 +107,12 @@ fn one(
     log: &mut [u8],
     patches: &mut [u8],
 ) -> bool {
-    let mut header = [0; 64];
+    let mut header = [0; 72];
     if !read_whole(&mut header) {
         return false;
+    }
+    if !caseform::good_header(&header) {
+        return unfit();
     }
     let c = caseform::case_of(&header);
     let s = caseform::state_of(&header);

@@ -45,8 +45,12 @@ fn play_files(
     std::fs::write(log, &played.log).map_err(|error| format!("{log}: {error}"))?;
     let (answer, words) = played.why_it_stopped();
     let (steps, bus_cycles) = (played.steps, played.bus_cycles);
+    let dropped = match played.dropped_bytes {
+        0 => String::new(),
+        bytes => format!(", dropped {bytes} bytes"),
+    };
     Ok(format!(
-        "stopped with {answer}: {words}; {steps} steps, {bus_cycles} bus cycles"
+        "stopped with {answer}: {words}; {steps} steps, {bus_cycles} bus cycles{dropped}"
     ))
 }
 

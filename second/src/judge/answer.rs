@@ -2,7 +2,7 @@
 
 use crate::judge::case::{Call, Case, End};
 use crate::judge::result::CallResult;
-use crate::machine::{Machine, RunReport};
+use crate::machine::{Machine, RunReport, Tally};
 use crate::portlog::{LogReader, Reading};
 use crate::refusal::Refusal;
 use std::io::{self, Read, Write};
@@ -31,18 +31,18 @@ pub fn answer(case: &Case) -> Vec<u8> {
         }),
         Call::Reset => answer_call(case, |machine| {
             machine.reset();
-            report(Ok(0), 0)
+            report(Ok(Tally::default()), 0)
         }),
         Call::LogReading => answer_reading(case),
     }
 }
 
 /// The report of a call that, when done, counts as so many steps.
-fn report(outcome: Result<u32, Refusal>, steps: u32) -> RunReport {
+fn report(outcome: Result<Tally, Refusal>, steps: u32) -> RunReport {
     RunReport {
         refusal: outcome.err(),
         steps: if outcome.is_ok() { steps } else { 0 },
-        bus_cycles: outcome.unwrap_or(0),
+        tally: outcome.unwrap_or_default(),
     }
 }
 
@@ -60,7 +60,7 @@ fn answer_call(case: &Case, call: impl FnOnce(&mut Machine) -> RunReport) -> Vec
     let result = CallResult {
         answer: report.refusal.map_or(0, Refusal::number),
         steps: report.steps,
-        bus_cycles: report.bus_cycles,
+        tally: report.tally,
         state: &state,
         ram: &lent.ram,
         log: &lent.log,

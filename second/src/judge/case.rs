@@ -9,8 +9,11 @@ pub const LONGEST_TAPE: u16 = 4_096;
 pub const LONGEST_LOG: u16 = 4_096;
 pub const MOST_PATCHES: u16 = 4_096;
 
-const HEADER_LENGTH: usize = 64;
+const HEADER_LENGTH: usize = 72;
 const PATCH_LENGTH: usize = 6;
+
+/// From here on a header has zeros: fields of requests that are not built, and bytes that nothing uses.
+const ZEROS_FROM: usize = 61;
 
 /// The order in which a stream names the segment registers.
 const SEGMENT_ORDER: [usize; 4] = [PS, SS, DS0, DS1];
@@ -80,7 +83,7 @@ pub struct Buffers {
 pub enum End {
     /// The stream ended, perhaps in the middle of a case.
     OfStream,
-    /// The case does not fit the program's buffers or names no call.
+    /// The case breaks a rule of the stream.
     Unfit(&'static str),
     Broken(io::Error),
 }
@@ -113,8 +116,9 @@ impl Case {
         stream.read_exact(&mut tape)?;
         let patches = patch_bytes
             .chunks_exact(PATCH_LENGTH)
-            .filter_map(Patch::of_bytes)
-            .collect();
+            .map(Patch::of_bytes)
+            .collect::<Option<_>>()
+            .ok_or(End::Unfit("there is no such kind of patch"))?;
         Ok(Case {
             patches,
             tape,
@@ -123,6 +127,12 @@ impl Case {
     }
 
     fn of_header(header: &[u8; HEADER_LENGTH]) -> Result<Case, End> {
+        if header[1] > 1 || header[2] > 1 {
+            return Err(End::Unfit("a mark is neither 0 nor 1"));
+        }
+        if header[ZEROS_FROM..].iter().any(|&byte| byte != 0) {
+            return Err(End::Unfit("something stands where there must be zero"));
+        }
         let case = Case {
             call: Call::of(header[0]).ok_or(End::Unfit("there is no such call"))?,
             state: state_of_header(header),
@@ -169,7 +179,8 @@ impl Case {
         bytes.extend((self.tape.len() as u16).to_le_bytes());
         bytes.extend(self.log_length.to_le_bytes());
         bytes.extend((self.patches.len() as u16).to_le_bytes());
-        bytes.extend([self.fill, 0, 0, 0]);
+        bytes.push(self.fill);
+        bytes.resize(HEADER_LENGTH, 0);
         for patch in &self.patches {
             bytes.push(patch.lent as u8);
             bytes.extend(patch.index.to_le_bytes());

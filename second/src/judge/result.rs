@@ -1,9 +1,10 @@
 //! The bytes that answer a case.
 
 use crate::judge::case::{double_word_at, registers_in_order, word_at, Call};
+use crate::machine::Tally;
 use crate::state::State;
 
-const CALL_LENGTH: usize = 58;
+const CALL_LENGTH: usize = 88;
 const READING_LENGTH: usize = 17;
 
 const REGISTER_NAMES: [&str; 14] = [
@@ -22,7 +23,7 @@ pub fn length_for(call: Call) -> usize {
 pub struct CallResult<'a> {
     pub answer: u8,
     pub steps: u32,
-    pub bus_cycles: u32,
+    pub tally: Tally,
     pub state: &'a State,
     pub ram: &'a [u8],
     pub log: &'a [u8],
@@ -32,7 +33,7 @@ impl CallResult<'_> {
     pub fn bytes(&self) -> Vec<u8> {
         let mut bytes = vec![self.answer, u8::from(self.state.halted)];
         bytes.extend(self.steps.to_le_bytes());
-        bytes.extend(self.bus_cycles.to_le_bytes());
+        bytes.extend(self.tally.bus_cycles.to_le_bytes());
         for word in registers_in_order(self.state) {
             bytes.extend(word.to_le_bytes());
         }
@@ -42,9 +43,12 @@ impl CallResult<'_> {
             self.state.count,
             sum(self.ram),
             sum(self.log),
+            self.tally.dropped_bytes,
         ] {
             bytes.extend(number.to_le_bytes());
         }
+        // what belongs to requests that are not built
+        bytes.resize(CALL_LENGTH, 0);
         bytes
     }
 }
@@ -65,7 +69,7 @@ pub struct Field {
 
 #[derive(Clone, Copy, Debug, PartialEq, Eq)]
 pub enum Value {
-    Decimal(u32),
+    Decimal(u64),
     Register(u16),
     Sum(u32),
 }
@@ -79,18 +83,12 @@ pub fn fields(call: Call, bytes: &[u8]) -> Vec<Field> {
 }
 
 fn call_fields(bytes: &[u8]) -> Vec<Field> {
-    let decimal = |name, offset| Field {
-        name,
-        value: Value::Decimal(double_word_at(bytes, offset)),
-    };
+    let decimal = |name, offset| decimal_field(name, bytes, offset, 4);
     let sum = |name, offset| Field {
         name,
         value: Value::Sum(double_word_at(bytes, offset)),
     };
-    let byte = |name, offset: usize| Field {
-        name,
-        value: Value::Decimal(u32::from(bytes[offset])),
-    };
+    let byte = |name, offset| decimal_field(name, bytes, offset, 1);
     let mut fields = vec![
         byte("the answer", 0),
         byte("the halted mark", 1),
@@ -107,20 +105,37 @@ fn call_fields(bytes: &[u8]) -> Vec<Field> {
         decimal("the count", 46),
         sum("the sum of RAM", 50),
         sum("the sum of the log", 54),
+        decimal("the number of dropped bytes", 58),
+        decimal_field("the number of clocks", bytes, 62, 8),
+        byte("the mark of a segment load", 70),
+        byte("the permission to write the mode", 71),
+        Field {
+            name: "the flags marked undefined",
+            value: Value::Register(word_at(bytes, 72)),
+        },
+        decimal("the number of instructions reported", 74),
+        sum("the sum of their addresses", 78),
+        decimal_field("the zero at the end", bytes, 82, 6),
     ]);
     fields
 }
 
-fn reading_fields(bytes: &[u8]) -> Vec<Field> {
-    let decimal = |name, offset| Field {
+/// The number of so many bytes, the lowest first.
+fn decimal_field(name: &'static str, bytes: &[u8], offset: usize, length: usize) -> Field {
+    let number = bytes[offset..offset + length]
+        .iter()
+        .rev()
+        .fold(0, |high, &low| high << 8 | u64::from(low));
+    Field {
         name,
-        value: Value::Decimal(double_word_at(bytes, offset)),
-    };
+        value: Value::Decimal(number),
+    }
+}
+
+fn reading_fields(bytes: &[u8]) -> Vec<Field> {
+    let decimal = |name, offset| decimal_field(name, bytes, offset, 4);
     vec![
-        Field {
-            name: "the kind",
-            value: Value::Decimal(u32::from(bytes[0])),
-        },
+        decimal_field("the kind", bytes, 0, 1),
         decimal("the gap", 1),
         decimal("the key", 5),
         decimal("the value", 9),

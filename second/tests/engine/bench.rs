@@ -1,6 +1,6 @@
 //! A machine with code at 2000:0000, ready to be stepped.
 
-use second::machine::{Machine, RunReport};
+use second::machine::{Machine, RunReport, Tally};
 use second::refusal::Refusal;
 use second::state::{State, DS0, DS1, PS, SS};
 
@@ -83,8 +83,19 @@ impl Bench {
         answer
     }
 
-    pub fn step(&mut self) -> Result<u32, Refusal> {
+    pub fn tally(&mut self) -> Result<Tally, Refusal> {
         self.on(|machine| machine.step())
+    }
+
+    /// Bus cycles of a step that may be refused.
+    pub fn step(&mut self) -> Result<u32, Refusal> {
+        self.tally().map(|tally| tally.bus_cycles)
+    }
+
+    /// Bus cycles of an interrupt that may be refused.
+    pub fn interrupt(&mut self, vector: u8, may_be_masked: bool) -> Result<u32, Refusal> {
+        self.on(|machine| machine.interrupt(vector, may_be_masked))
+            .map(|tally| tally.bus_cycles)
     }
 
     pub fn run(&mut self, budget: u16) -> RunReport {

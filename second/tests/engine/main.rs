@@ -6,6 +6,7 @@ mod bits;
 mod blocks;
 mod branches;
 mod decimal;
+mod drops;
 mod log;
 mod memory;
 mod play;

@@ -78,6 +78,7 @@ fn program(folder: &str, words: &[&str]) -> (Output, Vec<u8>) {
     let folder = std::env::temp_dir().join(format!("play-{}-{folder}", std::process::id()));
     fs::create_dir(&folder).unwrap();
     fs::write(folder.join("rom"), rom(&[0xE4, 0x10, 0xF4])).unwrap();
+    fs::write(folder.join("drops"), rom(&[0xA3, 0x00, 0x00, 0xF4])).unwrap();
     fs::write(folder.join("long rom"), vec![0xF4; 1_048_577]).unwrap();
     fs::write(folder.join("tape"), [0x41]).unwrap();
     fs::write(folder.join("log"), "as it was").unwrap();
@@ -101,6 +102,22 @@ fn the_program_writes_the_log_and_says_why_it_stopped() {
     );
     assert_eq!(output.status.code(), Some(0));
     assert_eq!(log, [0x01, 0x40, 0x41]);
+}
+
+#[test]
+fn dropped_bytes_are_summed_and_said() {
+    // MOV [0000h],AW; BR back to it
+    let played = play(&rom(&[0xA3, 0x00, 0x00, 0xEB, 0xFB]), &[], 1, 200_000);
+    assert_eq!(
+        (played.bus_cycles, played.dropped_bytes),
+        (100_000, 100_000)
+    );
+    let (output, _) = program("drops", &["drops", "tape", "log", "0", "9"]);
+    let said = String::from_utf8(output.stdout).unwrap();
+    assert_eq!(
+        said,
+        "stopped with 8: the machine is halted; 2 steps, 1 bus cycles, dropped 2 bytes\n"
+    );
 }
 
 #[test]

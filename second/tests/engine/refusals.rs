@@ -71,7 +71,7 @@ fn the_order_of_a_step() {
 fn the_order_of_an_interrupt() {
     let mut machine = bench(&[]);
     let masked = |machine: &mut Bench| {
-        let refusal = machine.on(|m| m.interrupt(0, true)).err();
+        let refusal = machine.interrupt(0, true).err();
         number(refusal)
     };
     assert_eq!(masked(&mut machine), 7);
@@ -97,7 +97,11 @@ fn a_run_sums_the_cycles_of_its_finished_steps() {
     let mut machine = bench(&[0x50, 0x50, 0xE4, 0x00]).with(SP, 0x11);
     let report = machine.run(10);
     assert_eq!(
-        (number(report.refusal), report.steps, report.bus_cycles),
+        (
+            number(report.refusal),
+            report.steps,
+            report.tally.bus_cycles
+        ),
         (5, 2, 4)
     );
 }

@@ -54,7 +54,8 @@ fn a_case_is_laid_out_as_the_table_says() {
     expected.extend([1, 1, 2, 0, 3, 0, 4, 0, 5, 0, 6, 0, 7, 0, 8, 0]);
     expected.extend([9, 0, 10, 0, 11, 0, 12, 0, 13, 0, 0x02, 0xF0]);
     expected.extend([1, 0, 0, 0, 2, 0, 0, 0, 0x45, 0x23, 0x01, 0]);
-    expected.extend([16, 0, 0, 0, 0, 0, 0, 0, 1, 0, 4, 0, 1, 0, 0x90, 0, 0, 0]);
+    expected.extend([16, 0, 0, 0, 0, 0, 0, 0, 1, 0, 4, 0, 1, 0, 0x90]);
+    expected.extend([0; 11]);
     expected.extend([0, 0, 0, 0, 0, 0x40, 0xAB]);
     assert_eq!(bytes, expected);
     assert_eq!(Case::read(&mut &bytes[..]).expect("a whole case"), case);
@@ -71,7 +72,10 @@ fn an_answer_is_laid_out_as_the_table_says() {
     ram[0] = 0x50;
     expected.extend(sum(&ram).to_le_bytes());
     expected.extend(sum(&[0x90; 4]).to_le_bytes());
-    assert_eq!(bytes, expected);
+    // the pushed word is dropped, and what follows belongs to requests that are not built
+    expected.extend([2, 0, 0, 0]);
+    expected.extend([0; 26]);
+    assert_eq!((bytes.len(), bytes), (88, expected));
 }
 
 #[test]
@@ -119,15 +123,24 @@ fn a_cut_case_ends_the_stream_without_a_result() {
     let whole = bytes_of(&step_of(&[0x40]));
     let twice = whole.repeat(2);
     for cut in 1..whole.len() {
-        assert_eq!(answers_of(&twice[..twice.len() - cut]).len(), 58);
+        assert_eq!(answers_of(&twice[..twice.len() - cut]).len(), 88);
     }
-    assert_eq!(answers_of(&twice).len(), 116);
+    assert_eq!(answers_of(&twice).len(), 176);
+}
+
+/// How many results come when the second of two cases has these bytes at an offset, and much follows.
+fn answered_with(offset: usize, bytes: &[u8]) -> usize {
+    let good = bytes_of(&step_of(&[0x40]));
+    let mut stream = good.repeat(2);
+    let start = good.len() + offset;
+    stream[start..start + bytes.len()].copy_from_slice(bytes);
+    stream.extend(vec![0; 100_000]);
+    answers_of(&stream).len() / 88
 }
 
 #[test]
 fn what_does_not_fit_ends_the_stream() {
-    let good = bytes_of(&step_of(&[0x40]));
-    // RAM, ROM, tape, log and patches one over their limits; call 5
+    // RAM, ROM, tape, log and patches one over their limits; calls that are not built or not known
     for (offset, bytes) in [
         (46, &[0x02, 0x00, 0x10, 0x00][..]),
         (50, &[0x02, 0x00, 0x10, 0x00]),
@@ -135,13 +148,49 @@ fn what_does_not_fit_ends_the_stream() {
         (56, &[0x01, 0x10]),
         (58, &[0x01, 0x10]),
         (0, &[5]),
+        (0, &[6]),
+        (0, &[255]),
     ] {
-        let mut stream = good.repeat(2);
-        let start = good.len() + offset;
-        stream[start..start + bytes.len()].copy_from_slice(bytes);
-        stream.extend(vec![0; 100_000]);
-        assert_eq!(answers_of(&stream).len(), 58);
+        assert_eq!(answered_with(offset, bytes), 1, "{offset} {bytes:?}");
     }
+}
+
+#[test]
+fn values_that_a_field_has_not_end_the_stream() {
+    // the halted mark, the masking, the kind of the patch
+    for (offset, last) in [(1, 1), (2, 1), (72, 2)] {
+        assert!(answered_with(offset, &[last]) > 1);
+        assert_eq!(answered_with(offset, &[last + 1]), 1);
+        assert_eq!(answered_with(offset, &[255]), 1);
+    }
+    // requests that are not built, and zero bytes
+    for offset in 61..72 {
+        assert_eq!(answered_with(offset, &[1]), 1);
+        assert_eq!(answered_with(offset, &[0x80]), 1);
+    }
+}
+
+#[test]
+fn refused_calls_report_no_dropped_bytes() {
+    // PUSH AW drops its word, where the state is good and the call is accepted
+    let dropped = |case: &Case| answer(case)[58..62].to_vec();
+    let mut case = step_of(&[0x50]);
+    assert_eq!(dropped(&case), [2, 0, 0, 0]);
+    case.call = Call::Interrupt;
+    assert_eq!(dropped(&case), [6, 0, 0, 0]);
+    case.may_be_masked = true;
+    assert_eq!((answer(&case)[0], dropped(&case)), (7, vec![0; 4]));
+    case.call = Call::Step;
+    case.state.psw = 0;
+    assert_eq!((answer(&case)[0], dropped(&case)), (2, vec![0; 4]));
+    // a run of PUSH AW and then NOPs, which ends as it began
+    let mut case = step_of(&[0x50]);
+    (case.call, case.budget) = (Call::Run, 3);
+    assert_eq!(dropped(&case), [2, 0, 0, 0]);
+    case.state.halted = true;
+    assert_eq!((answer(&case)[0], dropped(&case)), (8, vec![0; 4]));
+    case.call = Call::Reset;
+    assert_eq!(dropped(&case), [0; 4]);
 }
 
 #[test]
@@ -198,7 +247,7 @@ fn the_walk_passes_every_opcode() {
 #[test]
 fn generated_streams_reach_every_call_and_answer() {
     let mut reached = HashSet::new();
-    for number in 0..6_000 {
+    for number in 0..12_000 {
         let case = case(11, number);
         reached.insert((case.call as u8, answer(&case)[0]));
     }
@@ -210,6 +259,26 @@ fn generated_streams_reach_every_call_and_answer() {
         assert!(reached.contains(&wanted), "{wanted:?}");
     }
     assert!(reached.contains(&(3, 0)));
+}
+
+#[test]
+fn generated_streams_drop_bytes() {
+    // steps, runs and interrupts that drop an even and an odd number of bytes
+    let mut found = [[0; 2]; 3];
+    for number in 0..6_000 {
+        let case = case(11, number);
+        if case.call as usize >= found.len() {
+            continue;
+        }
+        let after = answer(&case);
+        let dropped = after[58..62].iter().any(|&byte| byte != 0);
+        found[case.call as usize][usize::from(after[58] & 1)] += u32::from(dropped);
+    }
+    for (call, least) in [(0, [500, 200]), (1, [20, 5]), (2, [50, 10])] {
+        for (number, least) in found[call].into_iter().zip(least) {
+            assert!(number >= least, "{found:?}");
+        }
+    }
 }
 
 #[test]
@@ -265,8 +334,8 @@ fn mismatches_are_told_in_words() {
         )
     );
     let mut bad = good.clone();
-    bad[58 + 10] ^= 0xFF;
-    bad[58 + 36] ^= 0x41;
+    bad[88 + 10] ^= 0xFF;
+    bad[88 + 36] ^= 0x41;
     let (text, mismatched) = words_of(&cases, &good, &bad);
     assert_eq!(mismatched, 1);
     let lines: Vec<&str> = text.lines().collect();
@@ -277,6 +346,34 @@ fn mismatches_are_told_in_words() {
         format!("{what}: PSW is F002h by A, F043h by B (differing: CY Z)")
     );
     assert_eq!(lines[3], "2 cases compared, 1 mismatched");
+}
+
+#[test]
+fn every_byte_of_an_answer_has_a_name() {
+    let cases = bytes_of(&step_of(&[0x50]));
+    let good = answers_of(&cases);
+    for index in 0..good.len() {
+        let mut bad = good.clone();
+        bad[index] ^= 0x10;
+        let (text, mismatched) = words_of(&cases, &good, &bad);
+        let wanted = if (58..62).contains(&index) {
+            (0, 2)
+        } else {
+            (1, 3)
+        };
+        assert_eq!((mismatched, text.lines().count()), wanted, "{text}");
+    }
+    let mut bad = good.clone();
+    (bad[58], bad[62], bad[68], bad[85]) = (1, 7, 1, 1);
+    let (text, _) = words_of(&cases, &good, &bad);
+    let what = "case 7: step of 50 (PUSH reg16)";
+    let wanted = [
+        "the number of dropped bytes is 2 by A, 1 by B",
+        "the number of clocks is 0 by A, 281474976710663 by B",
+        "the zero at the end is 0 by A, 16777216 by B",
+    ]
+    .map(|words| format!("{what}: {words}"));
+    assert_eq!(text.lines().take(3).collect::<Vec<_>>(), wanted);
 }
 
 #[test]

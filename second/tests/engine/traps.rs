@@ -152,7 +152,7 @@ fn an_interrupt_enters_and_ends_a_halt() {
     let mut machine = with_vectors(&[0x90]).flags(IE | BRK);
     machine.state.halted = true;
     machine.state.count = 7;
-    assert_eq!(machine.on(|m| m.interrupt(0x42, true)), Ok(5));
+    assert_eq!(machine.interrupt(0x42, true), Ok(5));
     assert_eq!(trapped_to(&machine), Some(0x42));
     assert_eq!(pushed(&machine), [0xF302, 0x2000, 0]);
     assert!(!machine.state.halted);
@@ -164,10 +164,10 @@ fn ie_masks_only_maskable_interrupts() {
     let mut machine = with_vectors(&[0x90]);
     machine.state.halted = true;
     let before = machine.clone();
-    let masked = machine.on(|m| m.interrupt(9, true));
+    let masked = machine.interrupt(9, true);
     assert_eq!(masked, Err(Refusal::InterruptMasked));
     assert_eq!(machine, before);
-    assert_eq!(machine.on(|m| m.interrupt(9, false)), Ok(5));
+    assert_eq!(machine.interrupt(9, false), Ok(5));
     assert_eq!(trapped_to(&machine), Some(9));
 }
 

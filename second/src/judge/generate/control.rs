@@ -121,11 +121,16 @@ pub fn prefix_set(draft: &mut Draft) {
 
 pub fn interrupt(draft: &mut Draft) {
     choose_stack_top(draft);
+    draft.put_data();
+    enter_interrupt(draft);
+}
+
+/// The call alone, of any vector, over the stack that is there.
+pub fn enter_interrupt(draft: &mut Draft) {
     draft.case.call = Call::Interrupt;
     draft.case.vector = draft.random.some_byte();
     draft.case.may_be_masked = draft.random.one_in(2);
     draft.case.state.halted = draft.random.one_in(3);
-    draft.put_data();
     draft.put_random(0, u16::from(draft.case.vector) * 4, 4);
 }
 

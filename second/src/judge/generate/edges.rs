@@ -46,6 +46,15 @@ pub fn operand_at_an_edge(draft: &mut Draft) {
     let high_bits = draft.random.pick(&[0xFFF0, 0xFFF0, 0x0000, 0x1230]);
     let offset = high_bits | place as u16 & 0x0F;
     let segment = (place.wrapping_sub(u32::from(offset)) >> 4) as u16;
+    aim(draft, segment, offset);
+    let mut code = opcode_with_direct_address(draft);
+    code.extend(offset.to_le_bytes());
+    code.extend(draft.random.some_word().to_le_bytes());
+    draft.put_code(&code);
+}
+
+/// Lets every data segment and every pointer name one place, and puts random bytes there.
+pub fn aim(draft: &mut Draft, segment: u16, offset: u16) {
     for code in [DS1, SS, DS0] {
         draft.case.state.segment[code] = segment;
     }
@@ -53,10 +62,6 @@ pub fn operand_at_an_edge(draft: &mut Draft) {
         draft.case.state.general[code] = offset;
     }
     draft.put_random(segment, offset, 6);
-    let mut code = opcode_with_direct_address(draft);
-    code.extend(offset.to_le_bytes());
-    code.extend(draft.random.some_word().to_le_bytes());
-    draft.put_code(&code);
 }
 
 /// Any opcode that is in; one with operands gets the form of a 16-bit address.

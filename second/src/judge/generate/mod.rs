@@ -3,6 +3,7 @@
 mod control;
 mod data;
 mod draft;
+mod drops;
 mod edges;
 pub mod encodings;
 mod logs;
@@ -20,8 +21,8 @@ type Family = fn(&mut Draft);
 const WALK_PERIOD: u64 = 4;
 
 /// Families of cases and how many of a thousand each gets among the others.
-const FAMILIES: [(u32, Family); 22] = [
-    (150, any_instruction),
+const FAMILIES: [(u32, Family); 24] = [
+    (90, any_instruction),
     (55, data::shift),
     (45, data::divide),
     (20, data::multiply),
@@ -41,6 +42,8 @@ const FAMILIES: [(u32, Family); 22] = [
     (50, edges::code_at_an_edge),
     (30, edges::operand_at_an_edge),
     (40, edges::bad_arguments),
+    (40, drops::store),
+    (20, drops::push),
     (50, logs::reading),
     (100, programs::run),
 ];

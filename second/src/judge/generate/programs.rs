@@ -36,7 +36,12 @@ pub fn run(draft: &mut Draft) {
 
 /// Small RAM with vectors to a handler that returns, and pointers into RAM.
 fn lay_out(draft: &mut Draft) {
-    draft.case.ram_length = draft.random.between(0x800, 0x1800);
+    draft.case.ram_length = if draft.random.one_in(4) {
+        // stack and data lie past RAM, or its end lies among them
+        u32::from(DATA) + draft.random.below(0x220)
+    } else {
+        draft.random.between(0x800, 0x1800)
+    };
     draft.case.log_length = draft.random.between(0, 400) as u16;
     draft.case.tape = (0..draft.random.below(100))
         .map(|_| draft.random.byte())
