@@ -54,6 +54,8 @@ pub(crate) struct Now {
     tally: Tally,
     recorded: bool,
     trapped: bool,
+    /// A MOV or POP into a segment register; interrupts and the single-step trap wait for the next step.
+    pub loads_segment: bool,
     /// How many bytes the instruction has, for tests alone.
     #[cfg(test)]
     pub fetched: usize,
@@ -69,6 +71,7 @@ impl Now {
             tally: Tally::default(),
             recorded: false,
             trapped: false,
+            loads_segment: false,
             #[cfg(test)]
             fetched: 0,
         }
@@ -133,6 +136,9 @@ impl<'a> Machine<'a> {
     /// Enters an interrupt and gives its tally; a refusal changes nothing.
     pub fn interrupt(&mut self, vector: u8, may_be_masked: bool) -> Result<Tally, Refusal> {
         self.check_what_was_lent()?;
+        if self.state.after_segment_load {
+            return Err(Refusal::InterruptHeldOff);
+        }
         if may_be_masked && !self.state.flag(IE) {
             return Err(Refusal::InterruptMasked);
         }
@@ -151,7 +157,8 @@ impl<'a> Machine<'a> {
         let good = state.fixed_bits_are_right()
             && state.tape_place as usize <= self.tape.len()
             && state.log_place as usize <= self.log.len()
-            && state.count <= COUNT_LIMIT;
+            && state.count <= COUNT_LIMIT
+            && !(state.after_segment_load && state.halted);
         if good {
             Ok(())
         } else {
@@ -166,10 +173,11 @@ impl<'a> Machine<'a> {
         self.now = Now::at(self.state.pc);
         let single_step = self.state.flag(BRK);
         self.execute()?;
-        if single_step && !self.now.trapped {
+        if single_step && !self.now.trapped && !self.now.loads_segment {
             self.trap(SINGLE_STEP_VECTOR);
             self.state.halted = false;
         }
+        self.state.after_segment_load = self.now.loads_segment;
         self.state.pc = self.now.next_pc;
         self.state.count = if self.now.recorded {
             0

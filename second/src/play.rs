@@ -29,6 +29,7 @@ impl Played {
             Some(Refusal::InterruptMasked) => "the interrupt is masked",
             Some(Refusal::MachineHalted) => "the machine is halted",
             Some(Refusal::MalformedRecord) => "a log record is malformed",
+            Some(Refusal::InterruptHeldOff) => "the interrupt is held off",
         };
         (self.refusal.map_or(0, Refusal::number), words)
     }

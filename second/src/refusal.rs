@@ -12,6 +12,7 @@ pub enum Refusal {
     InterruptMasked = 7,
     MachineHalted = 8,
     MalformedRecord = 9,
+    InterruptHeldOff = 13,
 }
 
 impl Refusal {

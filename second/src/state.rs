@@ -43,6 +43,8 @@ pub struct State {
     pub pc: u16,
     pub psw: u16,
     pub halted: bool,
+    /// The last finished step was a MOV or POP into a segment register.
+    pub after_segment_load: bool,
     pub tape_place: u32,
     pub log_place: u32,
     /// Finished steps since the last record or reset.
@@ -59,6 +61,7 @@ impl State {
             pc: 0,
             psw: FIXED_ONES,
             halted: false,
+            after_segment_load: false,
             tape_place: 0,
             log_place: 0,
             count: 0,

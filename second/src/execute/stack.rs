@@ -19,6 +19,7 @@ impl Machine<'_> {
 
     pub(super) fn pop_segment(&mut self, code: usize) {
         self.state.segment[code] = self.pop();
+        self.now.loads_segment = true;
     }
 
     pub(super) fn pop_psw(&mut self) {

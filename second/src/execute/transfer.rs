@@ -57,6 +57,7 @@ impl Machine<'_> {
             return Err(Refusal::UnknownInstruction);
         }
         self.state.segment[operands.reg] = self.get(operands.place);
+        self.now.loads_segment = true;
         Ok(())
     }
 

@@ -13,7 +13,7 @@ const HEADER_LENGTH: usize = 72;
 const PATCH_LENGTH: usize = 6;
 
 /// From here on a header has zeros: fields of requests that are not built, and bytes that nothing uses.
-const ZEROS_FROM: usize = 61;
+const ZEROS_FROM: usize = 62;
 
 /// The order in which a stream names the segment registers.
 const SEGMENT_ORDER: [usize; 4] = [PS, SS, DS0, DS1];
@@ -127,7 +127,7 @@ impl Case {
     }
 
     fn of_header(header: &[u8; HEADER_LENGTH]) -> Result<Case, End> {
-        if header[1] > 1 || header[2] > 1 {
+        if header[1] > 1 || header[2] > 1 || header[61] > 1 {
             return Err(End::Unfit("a mark is neither 0 nor 1"));
         }
         if header[ZEROS_FROM..].iter().any(|&byte| byte != 0) {
@@ -179,7 +179,7 @@ impl Case {
         bytes.extend((self.tape.len() as u16).to_le_bytes());
         bytes.extend(self.log_length.to_le_bytes());
         bytes.extend((self.patches.len() as u16).to_le_bytes());
-        bytes.push(self.fill);
+        bytes.extend([self.fill, u8::from(state.after_segment_load)]);
         bytes.resize(HEADER_LENGTH, 0);
         for patch in &self.patches {
             bytes.push(patch.lent as u8);
@@ -249,6 +249,7 @@ fn state_of_header(header: &[u8; HEADER_LENGTH]) -> State {
     state.pc = word_at(header, 30);
     state.psw = word_at(header, 32);
     state.halted = header[1] != 0;
+    state.after_segment_load = header[61] != 0;
     state.tape_place = double_word_at(header, 34);
     state.log_place = double_word_at(header, 38);
     state.count = double_word_at(header, 42);

@@ -14,6 +14,7 @@ mod ports;
 mod prefixes;
 mod refusals;
 mod rom_listing;
+mod segment_loads;
 mod shifts;
 mod small_table;
 mod stack;

@@ -48,6 +48,7 @@ fn a_case_is_laid_out_as_the_table_says() {
     case.state.tape_place = 1;
     case.state.log_place = 2;
     case.state.count = 0x12345;
+    case.state.after_segment_load = true;
     case.budget = 0x1234;
     let bytes = bytes_of(&case);
     let mut expected = vec![0, 0, 0, 0, 0x34, 0x12];
@@ -55,7 +56,8 @@ fn a_case_is_laid_out_as_the_table_says() {
     expected.extend([9, 0, 10, 0, 11, 0, 12, 0, 13, 0, 0x02, 0xF0]);
     expected.extend([1, 0, 0, 0, 2, 0, 0, 0, 0x45, 0x23, 0x01, 0]);
     expected.extend([16, 0, 0, 0, 0, 0, 0, 0, 1, 0, 4, 0, 1, 0, 0x90]);
-    expected.extend([0; 11]);
+    expected.push(1);
+    expected.extend([0; 10]);
     expected.extend([0, 0, 0, 0, 0, 0x40, 0xAB]);
     assert_eq!(bytes, expected);
     assert_eq!(Case::read(&mut &bytes[..]).expect("a whole case"), case);
@@ -76,6 +78,20 @@ fn an_answer_is_laid_out_as_the_table_says() {
     expected.extend([2, 0, 0, 0]);
     expected.extend([0; 26]);
     assert_eq!((bytes.len(), bytes), (88, expected));
+}
+
+#[test]
+fn an_answer_has_the_mark_of_a_segment_load() {
+    // MOV DS0,AW, then a step that does not load
+    let mut case = step_of(&[0x8E, 0xD8]);
+    assert_eq!(answer(&case)[70], 1);
+    (case.call, case.budget) = (Call::Run, 2);
+    assert_eq!(answer(&case)[70], 0);
+    case.state.after_segment_load = true;
+    case.call = Call::Interrupt;
+    assert_eq!((answer(&case)[0], answer(&case)[70]), (13, 1));
+    case.call = Call::Reset;
+    assert_eq!(answer(&case)[70], 0);
 }
 
 #[test]
@@ -157,14 +173,14 @@ fn what_does_not_fit_ends_the_stream() {
 
 #[test]
 fn values_that_a_field_has_not_end_the_stream() {
-    // the halted mark, the masking, the kind of the patch
-    for (offset, last) in [(1, 1), (2, 1), (72, 2)] {
+    // the halted mark, the masking, the mark of a segment load, the kind of the patch
+    for (offset, last) in [(1, 1), (2, 1), (61, 1), (72, 2)] {
         assert!(answered_with(offset, &[last]) > 1);
         assert_eq!(answered_with(offset, &[last + 1]), 1);
         assert_eq!(answered_with(offset, &[255]), 1);
     }
     // requests that are not built, and zero bytes
-    for offset in 61..72 {
+    for offset in 62..72 {
         assert_eq!(answered_with(offset, &[1]), 1);
         assert_eq!(answered_with(offset, &[0x80]), 1);
     }
@@ -253,7 +269,7 @@ fn generated_streams_reach_every_call_and_answer() {
     }
     let step = [0, 1, 2, 3, 4, 5, 6, 8].map(|number| (0, number));
     let run = [0, 1, 2, 3, 5, 6, 8].map(|number| (1, number));
-    let interrupt = [0, 1, 2, 7].map(|number| (2, number));
+    let interrupt = [0, 1, 2, 7, 13].map(|number| (2, number));
     let reading = [0, 1, 2, 9].map(|number| (4, number));
     for wanted in step.into_iter().chain(run).chain(interrupt).chain(reading) {
         assert!(reached.contains(&wanted), "{wanted:?}");

@@ -83,6 +83,28 @@ pub fn trap(draft: &mut Draft) {
     draft.put_code(&[first, second, low, high]);
 }
 
+/// MOV and POP into segment registers and what is much like them, with and without the single-step flag.
+pub fn segment_load(draft: &mut Draft) {
+    choose_stack_top(draft);
+    if draft.random.one_in(2) {
+        draft.case.state.psw ^= BRK;
+    }
+    draft.case.state.after_segment_load = draft.random.one_in(2);
+    draft.put_data();
+    draft.put_random(0, 0, 8);
+    let operands = draft.random.byte();
+    let displacement = draft.random.below(0x200) as u16;
+    draft.put_operand_data(operands, displacement);
+    let first = draft.random.pick(&[
+        0x8E, 0x8E, 0x8E, 0x07, 0x17, 0x1F, 0x8C, 0x8F, 0xC4, 0xC5, 0x58, 0xEA, 0xCB, 0xF4, 0xF1,
+    ]);
+    let count = u32::from(draft.random.one_in(4));
+    let mut code = encodings::prefixes(&mut draft.random, count);
+    code.extend([first, operands]);
+    code.extend(displacement.to_le_bytes());
+    draft.put_code(&code);
+}
+
 /// POP PSW and RETI of any word, also over the single-step flag.
 pub fn popped_flags(draft: &mut Draft) {
     choose_stack_top(draft);
@@ -131,12 +153,14 @@ pub fn enter_interrupt(draft: &mut Draft) {
     draft.case.vector = draft.random.some_byte();
     draft.case.may_be_masked = draft.random.one_in(2);
     draft.case.state.halted = draft.random.one_in(3);
+    draft.case.state.after_segment_load = draft.random.one_in(4);
     draft.put_random(0, u16::from(draft.case.vector) * 4, 4);
 }
 
 pub fn reset(draft: &mut Draft) {
     draft.case.call = Call::Reset;
     draft.case.state.halted = draft.random.one_in(2);
+    draft.case.state.after_segment_load = draft.random.one_in(2);
     draft.case.state.psw = draft.random.word();
     draft.case.state.tape_place = draft.random.below(20);
     draft.put_data();

@@ -33,6 +33,7 @@ impl Draft {
         draft.choose_registers();
         draft.choose_code_place();
         draft.choose_places_and_count();
+        draft.case.state.after_segment_load = draft.random.one_in(8);
         draft
     }
 

@@ -21,8 +21,8 @@ type Family = fn(&mut Draft);
 const WALK_PERIOD: u64 = 4;
 
 /// Families of cases and how many of a thousand each gets among the others.
-const FAMILIES: [(u32, Family); 24] = [
-    (90, any_instruction),
+const FAMILIES: [(u32, Family); 25] = [
+    (70, any_instruction),
     (55, data::shift),
     (45, data::divide),
     (20, data::multiply),
@@ -36,6 +36,7 @@ const FAMILIES: [(u32, Family); 24] = [
     (20, control::prepare),
     (30, control::trap),
     (20, control::popped_flags),
+    (20, control::segment_load),
     (30, control::prefix_set),
     (45, control::interrupt),
     (5, control::reset),

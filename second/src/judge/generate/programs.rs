@@ -21,7 +21,7 @@ pub fn run(draft: &mut Draft) {
         _ => draft.random.below(200) as u16,
     };
     lay_out(draft);
-    let program = match draft.random.below(20) {
+    let program = match draft.random.below(22) {
         0 | 1 => counted_loop(draft),
         2 | 3 => repeat_over_itself(draft),
         4 | 5 => port_loop(draft),
@@ -29,6 +29,7 @@ pub fn run(draft: &mut Draft) {
         8 | 9 => long_quiet_spell(draft),
         10 | 11 => division_by_anything(draft),
         12 => slide_over_the_end(draft),
+        13 | 14 => stack_loads(draft),
         _ => random_loop(draft),
     };
     draft.put(0, START, &program);
@@ -199,6 +200,32 @@ fn nested_calls(draft: &mut Draft) -> Vec<u8> {
     }
     program.extend([0xC9, 0xC3]);
     program
+}
+
+/// Loads of SS and SP, one after the other and alone, under the single-step flag as often as not.
+fn stack_loads(draft: &mut Draft) -> Vec<u8> {
+    if draft.random.one_in(2) {
+        draft.case.state.psw ^= BRK;
+    }
+    draft.case.state.general[0] = 0;
+    let mut program = Vec::new();
+    for _ in 0..draft.random.between(1, 8) {
+        let load: &[u8] = draft.random.pick(&[
+            &[0x8E, 0xD0],
+            &[0x8E, 0xD8, 0x8E, 0xC0],
+            &[0x16, 0x17],
+            &[0x1E, 0x1F],
+            &[0x8C, 0xD1, 0x8E, 0xD1],
+        ]);
+        program.extend(load);
+        match draft.random.below(4) {
+            0 => program.extend([0xBC, 0xF0, (DATA >> 8) as u8 + 1]),
+            1 => program.push(0x90),
+            2 => program.push(0xCC),
+            _ => {}
+        }
+    }
+    closed(program)
 }
 
 /// The count reaches its limit, then a record is written.
