@@ -6,6 +6,7 @@ use lib.ListN.{getD, set, replicate}
 use lib.Dec.{eqb, leb, ltb}
 use mir.Val.{boolByte}
 use Rattle.sheet.specs.Width.{pick}
+use Rattle.sheet.specs.declared.Marks.{Marks}
 use Rattle.sheet.specs.declared.State.{State}
 use Rattle.sheet.specs.declared.Bus.{Bus}
 use Rattle.sheet.specs.declared.Entry.{Entry}
@@ -13,11 +14,11 @@ use Rattle.sheet.specs.declared.Entry.the-variants.{Record, End, Malformed, Bey
 use Rattle.casebytes.specs.Numbers.{wordAt, doubleAt, wordPut, doublePut}
 use Rattle.caseform.specs.declared.Case.{Case}
 
--- the rules for a header's bytes: call, halted and masking; zero in the mark, the permission and the gap rule, whose requests are not
--- built, in the flags marked undefined, and in the last six bytes
+-- the rules for a header's bytes: call, halted, masking and the mark of a segment load; zero in the permission and the gap rule, whose
+-- requests are not built, in the flags marked undefined, and in the last six bytes
 unfoldable pub goodHeader : List ℕ → Bool
 goodHeader header =
-    leb (getD header 0 0) 4 && (leb (getD header 1 0) 1 && (leb (getD header 2 0) 1 && (eqb (getD header 61 0) 0 && (eqb (getD header 62 0) 0 && (eqb (getD header 63 0) 0 && (eqb (wordAt header 64) 0 && (eqb (wordAt header 66) 0 && eqb (doubleAt header 68) 0)))))))
+    leb (getD header 0 0) 4 && (leb (getD header 1 0) 1 && (leb (getD header 2 0) 1 && (leb (getD header 61 0) 1 && (eqb (getD header 62 0) 0 && (eqb (getD header 63 0) 0 && (eqb (wordAt header 64) 0 && (eqb (wordAt header 66) 0 && eqb (doubleAt header 68) 0)))))))
 
 -- where the register file has the stream's register i: eight general ones, PS, SS, DS0, DS1, PC, PSW
 unfoldable pub placeOf : ℕ → ℕ
@@ -32,7 +33,7 @@ unfoldable pub stateOf : List ℕ → State
 stateOf header =
     record {
       file = fileOf header 14;
-      marks = record { halted = not (eqb (getD header 1 0) 0) };
+      marks = record { halted = not (eqb (getD header 1 0) 0); loaded = not (eqb (getD header 61 0) 0) };
       progress = record { tape = doubleAt header 34; log = doubleAt header 38; count = doubleAt header 42 };
     }
 
@@ -51,9 +52,9 @@ caseOf header =
       fill = getD header 60 0;
     }
 
--- a result with the answer, the halted mark and the steps done put in
-unfoldable pub withAnswer : ℕ → Bool → ℕ → List ℕ → List ℕ
-withAnswer number halted steps l = doublePut (set (set l 0 number) 1 (boolByte halted)) 2 steps
+-- a result with the answer, the marks and the steps done put in
+unfoldable pub withAnswer : ℕ → Marks → ℕ → List ℕ → List ℕ
+withAnswer number marks steps l = doublePut (set (set (set l 0 number) 1 (boolByte (marks .halted))) 70 (boolByte (marks .loaded))) 2 steps
 
 -- with the bus cycles put in, and the dropped bytes, which nobody counts yet
 unfoldable pub withTally : Bus → List ℕ → List ℕ
@@ -70,7 +71,7 @@ withPlaces tape log count l = doublePut (doublePut (doublePut l 38 (tape % 42949
 
 unfoldable pub withCall : ℕ → ℕ → Bus → State → List ℕ → List ℕ
 withCall number steps bus s l =
-    withPlaces (s .progress .tape) (s .progress .log) (s .progress .count) (withFile (s .file) 14 (withTally bus (withAnswer number (s .marks .halted) steps l)))
+    withPlaces (s .progress .tape) (s .progress .log) (s .progress .count) (withFile (s .file) 14 (withTally bus (withAnswer number (s .marks) steps l)))
 
 -- with the sums of RAM and log put in
 unfoldable pub withSums : ℕ → ℕ → List ℕ → List ℕ

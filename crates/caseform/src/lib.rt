@@ -24,7 +24,7 @@ pub fn good_header(header: &[u8; 72]) -> bool
     (header[0] <= 4)
         & ((header[1] <= 1)
             & ((header[2] <= 1)
-                & ((header[61] == 0)
+                & ((header[61] <= 1)
                     & ((header[62] == 0)
                         & ((header[63] == 0) & ((undefined == 0) & ((low == 0) & (high == 0))))))))
 }
@@ -72,6 +72,7 @@ pub fn state_of(header: &[u8; 72]) -> State
         file,
         marks: Marks {
             halted: header[1] != 0,
+            loaded: header[61] != 0,
         },
         progress: Progress {
             tape: tape as usize,
@@ -120,11 +121,12 @@ pub fn case_of(header: &[u8; 72]) -> Case
 
 // ---- the result of a call on the machine
 
-fn put_answer(out: &mut [u8; 88], number: u8, halted: bool, steps: u32)
-    ensures { λ _. ⌜ now (out .exit) ≡ withAnswer number halted steps (now (out .entry)) ⌝ }
+fn put_answer(out: &mut [u8; 88], number: u8, marks: Marks, steps: u32)
+    ensures { λ _. ⌜ now (out .exit) ≡ withAnswer number marks steps (now (out .entry)) ⌝ }
 {
     out[0] = number;
-    out[1] = halted as u8;
+    out[1] = marks.halted as u8;
+    out[70] = marks.loaded as u8;
     put_double(out, 2, steps);
 }
 
@@ -160,7 +162,8 @@ fn put_places(out: &mut [u8; 88], tape: usize, log: usize, count: u32)
 pub fn put_call(out: &mut [u8; 88], number: u8, steps: u32, bus: Bus, s: State)
     ensures { λ _. ⌜ now (out .exit) ≡ withCall number steps bus s (now (out .entry)) ⌝ }
 {
-    put_answer(out, number, s.marks.halted, steps);
+    let marks = s.marks;
+    put_answer(out, number, marks, steps);
     put_tally(out, bus);
     let file = s.file;
     put_file(out, &file);
