@@ -83,7 +83,7 @@ fn reset() -> Done
         number: 0,
         steps: 0,
         state,
-        bus: Bus { cycles: 0 },
+        bus: tally::none(),
     }
 }
 
