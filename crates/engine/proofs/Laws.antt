@@ -80,11 +80,11 @@ module _ (f : List ℕ) (m : Marks) (q : Progress) (ram rom tape log : List ℕ)
         known-at = awake-known up i size h (known-reads i size (read e) .is)
 
         go : (t : Bool) → eqb number 0 ≡ t → Advances (stateOf f m q) ram rom tape log t number (stateOf f′ m′ q′) ram′ log′ n
-        go true y = let z = eqb-true number 0 y in record { most = p .most .cycles; is = rw known-at (p .done z .is); zero = λ t. z; same = λ t. absurd (true≢false t) }
+        go true y = let z = eqb-true number 0 y in record { most = p .most; is = rw known-at (p .done z .is); zero = λ t. z; same = λ t. absurd (true≢false t) }
         go false y =
             let z = eqb-false number 0 y in
             let (u, x, g, k, l, o) = p .same z in
-            record { most = p .most .cycles; is = rw known-at (p .stop z .is); zero = λ t. cc; same = λ t. (rw (u, k, l), x, g, o) }
+            record { most = p .most; is = rw known-at (p .stop z .is); zero = λ t. cc; same = λ t. (rw (u, k, l), x, g, o) }
 
     pub advances-known : (i : Instr) (size : ℕ) (x : Advanced) (f′ ram′ log′ : List ℕ) → r ≡ Known i size → Carries i size f ram rom tape log m q x f′ ram′ log′
         → Advances (stateOf f m q) ram rom tape log (x .done) (x .number) (stateOf f′ (x .marks) (x .progress)) ram′ log′ (x .bus)
