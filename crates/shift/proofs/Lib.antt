@@ -1,3 +1,3 @@
 pub mod CarryLaws
+pub mod Counted
 pub mod Kept
-pub mod Places

@@ -90,17 +90,15 @@ pub fn one_place(kind: Shift, word: bool, t: Turn) -> Turn
     }
 }
 
-// n places, one after the other: all 8 bits of a count.
+// n places, all 8 bits of a count: all but the last at once, then the last, and what goes out there is CY.
 pub fn many_places(kind: Shift, word: bool, n: u8, t: Turn) -> Turn
     ensures { λ r. ⌜ r ≡ manyPlaces kind word n t ⌝ }
 {
-    let mut r = t;
-    let mut i: u8 = 0;
-    while i < n {
-        r = one_place(kind, word, r);
-        i += 1;
+    if n == 0 {
+        return t;
     }
-    r
+    let before = shift_at_once::before_last(kind, word, n - 1, t);
+    one_place(kind, word, before)
 }
 
 // V of the fixed count 1.

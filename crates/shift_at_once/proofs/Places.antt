@@ -16,7 +16,7 @@ use Rattle.sheet.specs.Psw.{bit}
 use Rattle.sheet.specs.Shift.{comesIn, toLeft, toRight, onePlace, manyPlaces}
 
 -- the first place may be taken first
-many-first : (k : Shift) (w : Bool) (n : ℕ) (t : Turn) → manyPlaces k w (suc n) t ≡ manyPlaces k w n (onePlace k w t)
+pub many-first : (k : Shift) (w : Bool) (n : ℕ) (t : Turn) → manyPlaces k w (suc n) t ≡ manyPlaces k w n (onePlace k w t)
 unfolding manyPlaces
 many-first k w zero t = refl
 many-first k w (suc n) t = ap (onePlace k w) (many-first k w n t)

@@ -1,0 +1,4 @@
+pub mod Joined
+pub mod Left
+pub mod Places
+pub mod Right
