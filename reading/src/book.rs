@@ -17,6 +17,7 @@ pub struct Row<'a> {
     pub label: Option<Vec<Piece>>,
     pub bars: [Bar; LEVELS],
     pub sentence: Vec<Piece>,
+    pub never_ran: bool,
     pub remarks: Vec<String>,
 }
 
@@ -133,8 +134,8 @@ impl<'a> Matter<'a> {
         }
         let lines = self.lines();
         let mut facts = vec![words(format!(
-            "The image has {}, {start:05X} to FFFFF. Following the program from {RESET:05X}, where the processor starts, {} \
-             are reached; all other bytes are shown as data.",
+            "The image has {}, {start:05X} to FFFFF. Followed from {RESET:05X}, where the processor starts, the program \
+             leads to {}; all other bytes are shown as data.",
             many(size as u32, "byte"),
             many(lines.len() as u32, "instruction"),
         ))];

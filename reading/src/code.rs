@@ -121,13 +121,6 @@ impl<'a, 'm> Code<'a, 'm> {
 
     fn remarks(&self, line: &Line) -> Vec<String> {
         let mut all: Vec<String> = Vec::new();
-        if self
-            .matter
-            .seen
-            .is_some_and(|seen| !seen.contains_key(&line.address))
-        {
-            all.push("Never ran.".to_string());
-        }
         all.extend(
             self.matter
                 .notes
@@ -135,6 +128,9 @@ impl<'a, 'm> Code<'a, 'm> {
                 .into_iter()
                 .map(str::to_string),
         );
+        if !self.matter.listing.is_own(line.address) {
+            all.push("The listing itself has no line that begins here.".to_string());
+        }
         if is_untold(line) {
             all.push("The program is not followed there.".to_string());
         }
@@ -164,6 +160,10 @@ impl<'a, 'm> Code<'a, 'm> {
             },
             bars,
             sentence,
+            never_ran: self
+                .matter
+                .seen
+                .is_some_and(|seen| !seen.contains_key(&line.address)),
             remarks: self.remarks(line),
         })
     }
@@ -199,13 +199,20 @@ impl<'a, 'm> Code<'a, 'm> {
             .filter(|(kind, _)| *kind == Kind::Calls)
             .map(|(_, to)| to)
             .collect();
-        facts.push(match called.is_empty() {
-            true => words("Calls no other."),
-            false => said(
+        let untold = rows
+            .iter()
+            .any(|row| row.line.instruction.name == "CALL" && is_untold(row.line));
+        if !called.is_empty() {
+            facts.push(said(
                 "Calls ",
                 called.into_iter().map(|to| self.link(to)).collect(),
-            ),
-        });
+            ));
+        } else if !untold {
+            facts.push(words("Calls no other."));
+        }
+        if untold {
+            facts.push(words("Calls what only the running machine knows."));
+        }
         facts
     }
 

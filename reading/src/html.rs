@@ -87,8 +87,12 @@ fn passing(row: &Row) -> String {
     row.bars.iter().map(cell).collect()
 }
 
-fn row(out: &mut String, row: &Row) {
-    let address = row.line.address;
+/// A line's row; a link to the first one leads to the heading above it.
+fn row(out: &mut String, row: &Row, first: bool) {
+    let id = match first {
+        true => String::new(),
+        false => format!(" id=\"a{:05X}\"", row.line.address),
+    };
     if let Some(label) = &row.label {
         out.push_str(&format!(
             "<div class=\"label\"><span class=\"bars\">{}</span><p>{}</p></div>\n",
@@ -103,14 +107,16 @@ fn row(out: &mut String, row: &Row) {
         .collect();
     let code = match row.own {
         true => line(row.line, 0),
-        false => format!(
-            "<code>{}<br>(begins inside of a line of the listing)</code>",
-            parts(row.line)
-        ),
+        false => format!("<code>{}</code>", parts(row.line)),
     };
     out.push_str(&format!(
-        "<div class=\"row\" id=\"a{address:05X}\"><span class=\"bars\">{}</span><p>{}{remarks}</p>{code}</div>\n",
+        "<div class=\"row\"{id}><span class=\"bars\">{}</span><p>{}{}{remarks}</p>{code}</div>\n",
         bars(row),
+        if row.never_ran {
+            "<strong>Never ran.</strong> "
+        } else {
+            ""
+        },
         prose(&row.sentence),
     ));
 }
@@ -118,7 +124,7 @@ fn row(out: &mut String, row: &Row) {
 fn section(out: &mut String, section: &Section) {
     let address = section.address;
     out.push_str(&format!(
-        "<section>\n<h2 id=\"s{address:05X}\">{} <small>{address:05X}</small></h2>\n",
+        "<section>\n<h2 id=\"a{address:05X}\">{} <small>{address:05X}</small></h2>\n",
         escaped(&section.title)
     ));
     if !section.comment.is_empty() {
@@ -130,7 +136,10 @@ fn section(out: &mut String, section: &Section) {
     let facts: Vec<String> = section.facts.iter().map(|fact| prose(fact)).collect();
     out.push_str(&format!("<p class=\"facts\">{}</p>\n", facts.join(" ")));
     match &section.body {
-        Body::Code(rows) => rows.iter().for_each(|one| row(out, one)),
+        Body::Code(rows) => rows
+            .iter()
+            .enumerate()
+            .for_each(|(i, one)| row(out, one, i == 0)),
         Body::Data(rows) => {
             out.push_str("<pre>");
             for row in rows {
@@ -207,8 +216,12 @@ pub fn set(book: &Book) -> String {
     for one in &book.sections {
         let address = one.address;
         let item = format!(
-            "<li><a href=\"#s{address:05X}\">{}</a> <small>{address:05X}</small></li>\n",
-            escaped(&one.title)
+            "<li><a href=\"#a{address:05X}\">{}</a> <small>{address:05X}</small>{}</li>\n",
+            escaped(&one.title),
+            match one.comment.as_str() {
+                "" => String::new(),
+                comment => format!("<br>{}", escaped(comment)),
+            }
         );
         out.push_str(&item);
     }

@@ -1,5 +1,6 @@
 //! reading text|page NAME NOTES SEEN -- LISTER..: reads an image from standard input and writes its reading; an empty name of notes
-//! or of what was seen stands for none. reading bare: takes the additions of a reading away again.
+//! or of what was seen stands for none. reading bare: takes the additions of a reading away again. reading each: the sentence of every
+//! line of a listing, whether the program comes there or not.
 //! A refusal is one line on standard error; it ends with 1 where a file cannot be used, 3 where the lister refuses the image.
 mod bare;
 mod book;
@@ -22,6 +23,7 @@ mod text;
 use book::Matter;
 use listing::Listing;
 use notes::Notes;
+use phrase::{plain, Here};
 use std::io::{Read, Write};
 
 /// Notes and what was seen are no longer than this.
@@ -98,15 +100,41 @@ fn bare_lines() -> Result<String, Refused> {
         .ok_or_else(|| ("this is no reading".to_string(), 3))
 }
 
+fn sentences() -> Result<String, Refused> {
+    let refused = |why: String| (why, 3);
+    let listing =
+        String::from_utf8(input()?).map_err(|_| refused("the listing is no text".to_string()))?;
+    let lines = line::listing(&listing)
+        .map_err(|n| refused(format!("line {n} of the listing is not understood")))?;
+    let notes = Notes::default();
+    let mut told = String::new();
+    for line in lines {
+        let here = Here {
+            address: line.address,
+            notes: &notes,
+            before: None,
+            start: 0,
+            shown: &|_| true,
+            again: &|_| false,
+        };
+        let pieces = sentence::sentence(&line.instruction, &here)
+            .ok_or_else(|| refused(format!("there is no sentence for the line '{}'", line.text)))?;
+        told += &format!("{}\t{}\n", line.text, plain(&pieces));
+    }
+    Ok(told)
+}
+
 fn main() {
     let words: Vec<String> = std::env::args().skip(1).collect();
     let made = match words.iter().map(String::as_str).collect::<Vec<_>>()[..] {
         ["bare"] => bare_lines(),
+        ["each"] => sentences(),
         [kind @ ("text" | "page"), name, notes, seen, "--", _, ..] => {
             reading(kind, name, notes, seen, &words[5..])
         }
         _ => Err((
-            "reading text|page NAME NOTES SEEN -- LISTER.., or reading bare".to_string(),
+            "reading text|page NAME NOTES SEEN -- LISTER.., reading bare, or reading each"
+                .to_string(),
             2,
         )),
     };

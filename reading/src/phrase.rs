@@ -3,6 +3,9 @@ use crate::line::Instruction;
 use crate::notes::Notes;
 use crate::operand::{Memory, Operand, Size};
 
+/// Displacements from here on are read as negative: below it they are rather the place of a table.
+const NEGATIVE: u16 = 0xFF00;
+
 /// Where a sentence stands.
 pub struct Here<'a> {
     pub address: u32,
@@ -37,10 +40,13 @@ pub fn plain(pieces: &[Piece]) -> String {
     pieces.iter().map(part).collect()
 }
 
-/// Numbers below ten are alike in hex and in decimal; others are given as both.
+/// Numbers below ten are alike in hex and in decimal; others are given as both, and where they may be negative also as that.
 pub fn both(value: u16) -> String {
+    let negative = value as i16;
     if value < 10 {
         format!("{value}")
+    } else if negative < 0 {
+        format!("{value:X}h ({value} or {negative})")
     } else {
         format!("{value:02X}h ({value})")
     }
@@ -110,14 +116,14 @@ impl Here<'_> {
 
     /// Segment and offset.
     pub fn spot(&self, memory: &Memory) -> String {
-        let shift = memory.displacement as i16;
+        let shift = memory.displacement;
         let mut sum = memory.registers.join(" + ");
         if memory.registers.is_empty() {
             sum = format!("{:04X}h", memory.displacement);
-        } else if shift < 0 {
-            sum += &format!(" - {}", in_hex(shift.unsigned_abs()));
+        } else if shift >= NEGATIVE {
+            sum += &format!(" - {}", in_hex(shift.wrapping_neg()));
         } else if shift > 0 {
-            sum += &format!(" + {}", in_hex(memory.displacement));
+            sum += &format!(" + {}", in_hex(shift));
         }
         format!("{}:{sum}", memory.segment)
     }
@@ -215,6 +221,7 @@ mod tests {
     fn numbers() {
         assert_eq!((both(9).as_str(), both(24).as_str()), ("9", "18h (24)"));
         assert_eq!(signed(0xFFFE), "FFFEh (-2)");
+        assert_eq!(both(0xFFFE), "FFFEh (65534 or -2)");
         assert_eq!(
             (many(1, "bit"), many(4, "bit")),
             ("1 bit".into(), "4 bits".into())

@@ -91,7 +91,8 @@ fn row(out: &mut String, row: &Row, column: usize) {
         head.pop();
         head.push(OTHER);
     }
-    let mut beside = wrapped(&plain(&row.sentence), SENTENCE);
+    let never = if row.never_ran { "Never ran. " } else { "" };
+    let mut beside = wrapped(&format!("{never}{}", plain(&row.sentence)), SENTENCE);
     for remark in &row.remarks {
         let lines = wrapped(remark, SENTENCE - 2);
         beside.extend(
@@ -217,6 +218,7 @@ pub fn set(book: &Book) -> String {
     heading(&mut out, "What is in it", '-');
     for one in &book.sections {
         out.push_str(&format!("  {:05X}  {}\n", one.address, one.title));
+        paragraph(&mut out, &one.comment, 9);
     }
     table(&mut out, "Ports", &book.ports);
     table(&mut out, "Cells of memory", &book.cells);

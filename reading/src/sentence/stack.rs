@@ -15,7 +15,7 @@ pub fn sentence(name: &str, operands: &[Operand], here: &Here) -> Option<String>
         ("PUSH", [value]) => format!("put {} onto the stack", here.value_as(value, signed)),
         ("POP", [to]) => format!("take {} back from the stack", here.value(to)),
         ("PREPARE", [Number(size, _), Number(0, _)]) => {
-            format!("open a frame on the stack with room for {}: BP is kept there and then points to it", bytes(*size))
+            format!("open a frame on the stack, at level 0, with room for {}: BP is kept there and then points to it", bytes(*size))
         }
         ("PREPARE", [Number(size, _), Number(level, _)]) => {
             let level = both(*level);

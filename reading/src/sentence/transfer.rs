@@ -26,8 +26,8 @@ fn moved(to: &Operand, by: &Operand, here: &Here) -> String {
 fn port(operand: &Operand, here: &Here) -> String {
     match operand {
         Number(port, _) => match here.notes.port(*port) {
-            Some(name) => format!("{name} (port {}h)", in_hex(*port).trim_end_matches('h')),
-            None => format!("port {}h", in_hex(*port).trim_end_matches('h')),
+            Some(name) => format!("{name} (port {port:02X}h)"),
+            None => format!("port {port:02X}h"),
         },
         other => format!("the port whose number is in {}", here.value(other)),
     }
