@@ -82,8 +82,12 @@ fn below(bar: Bar) -> char {
 
 fn row(out: &mut String, row: &Row, column: usize) {
     if let Some(label) = &row.label {
-        for line in wrapped(&format!("-- {}", plain(label)), WIDTH - MARGIN) {
-            out.push_str(&format!("{}{}\n", margin(row, above), line));
+        for (i, line) in wrapped(&plain(label), WIDTH - MARGIN - 3)
+            .iter()
+            .enumerate()
+        {
+            let mark = if i == 0 { "-- " } else { "   " };
+            out.push_str(&format!("{}{mark}{line}\n", margin(row, above)));
         }
     }
     let mut head = margin(row, beside);

@@ -76,7 +76,7 @@ pub fn sentence(name: &str, operands: &[Operand], here: &Here) -> Option<String>
         }
         ("CMP", [to, by]) => {
             format!(
-                "compare {} with {}; the flags tell how they stand",
+                "compare {} with {}; the flags keep the outcome",
                 value(to),
                 value(by)
             )
