@@ -3,6 +3,7 @@ use crate::book::{Body, Matter, Row, Section};
 use crate::flow::{is_untold, ways, Kind, RESET};
 use crate::line::Line;
 use crate::loops::{bars, Bar, Loops, LEVELS};
+use crate::operand::Operand;
 use crate::phrase::{words, Here, Piece};
 use crate::sentence::sentence;
 use std::collections::BTreeSet;
@@ -13,6 +14,39 @@ pub struct Code<'a, 'm> {
     loops: Loops,
     /// Where a routine begins.
     heads: BTreeSet<u32>,
+}
+
+/// How many lines before one are looked at for what registers were set to.
+const LEAD: usize = 8;
+
+/// Whether two names share a register: AL and AW, but not AL and AH.
+fn share(one: &str, other: &str) -> bool {
+    let wide = one.ends_with('W') || other.ends_with('W');
+    one == other
+        || one[..1] == other[..1]
+            && wide
+            && [one, other]
+                .iter()
+                .all(|name| name.ends_with(['L', 'H', 'W']))
+}
+
+/// The registers that lines right before set to a number; the last line comes first.
+fn set_by(lead: &[&Line]) -> Vec<(String, u16)> {
+    let mut set: Vec<(String, u16)> = Vec::new();
+    for line in lead {
+        let (name, operands) = (
+            line.instruction.name.as_str(),
+            line.instruction.operands.as_slice(),
+        );
+        let ("MOV", [Operand::Register(register), Operand::Number(value, _)]) = (name, operands)
+        else {
+            break;
+        };
+        if set.iter().all(|(later, _)| !share(later, register)) {
+            set.push((register.clone(), *value));
+        }
+    }
+    set
 }
 
 /// "a, b and c"
@@ -67,11 +101,14 @@ impl<'a, 'm> Code<'a, 'm> {
     }
 
     /// Speaks at an address: of it, or of what is done there.
-    fn at<T>(&self, address: u32, before: Option<&Line>, speak: impl Fn(&Here) -> T) -> T {
+    fn at<T>(&self, address: u32, before: &[&Line], speak: impl Fn(&Here) -> T) -> T {
         speak(&Here {
             address,
             notes: self.matter.notes,
-            before: before.map(|before| (before.address, &before.instruction)),
+            before: before
+                .first()
+                .map(|before| (before.address, &before.instruction)),
+            set: &set_by(before),
             start: self.matter.listing.start,
             shown: &|to| self.matter.flow.reached.contains(&to),
             again: &|to| self.loops.hold(address, to),
@@ -79,7 +116,7 @@ impl<'a, 'm> Code<'a, 'm> {
     }
 
     pub fn link(&self, address: u32) -> Vec<Piece> {
-        self.at(address, None, |here| here.link(address))
+        self.at(address, &[], |here| here.link(address))
     }
 
     /// Lines that come to an address; of another routine with its name.
@@ -108,7 +145,7 @@ impl<'a, 'm> Code<'a, 'm> {
         if from.is_empty() && note.is_none() {
             return None;
         }
-        let mut pieces = words(self.at(address, None, |here| here.name(address)));
+        let mut pieces = words(self.at(address, &[], |here| here.name(address)));
         if !from.is_empty() {
             pieces.extend(words(", reached from "));
             pieces.extend(listed(from));
@@ -140,13 +177,28 @@ impl<'a, 'm> Code<'a, 'm> {
         all
     }
 
+    /// The lines through which alone the program comes to a line, the last one first.
+    fn lead(&self, i: usize) -> Vec<&'a Line> {
+        let mut lead = Vec::new();
+        let mut address = self.lines[i].address;
+        for before in self.lines[..i].iter().rev().take(LEAD) {
+            let falls = ways(before).contains(&(Kind::Falls, address));
+            if !falls
+                || self.matter.flow.comers.contains_key(&address)
+                || self.heads.contains(&address)
+            {
+                break;
+            }
+            lead.push(*before);
+            address = before.address;
+        }
+        lead
+    }
+
     fn row(&self, i: usize, bars: [Bar; LEVELS]) -> Result<Row<'a>, String> {
         let line = self.lines[i];
-        let alone = !self.matter.flow.comers.contains_key(&line.address);
-        let falls = |before: &&Line| ways(before).contains(&(Kind::Falls, line.address));
-        let before = self.before(i).filter(falls).filter(|_| alone);
         let sentence = self
-            .at(line.address, before, |here| {
+            .at(line.address, &self.lead(i), |here| {
                 sentence(&line.instruction, here)
             })
             .ok_or_else(|| format!("there is no sentence for the line '{}'", line.text))?;
@@ -248,5 +300,31 @@ impl<'a, 'm> Code<'a, 'm> {
             }
         };
         Ok(sections.into_iter().map(section).collect())
+    }
+}
+
+#[cfg(test)]
+mod tests {
+    use super::*;
+    use crate::line::line;
+
+    #[test]
+    fn what_registers_were_set_to() {
+        let lead: Vec<Line> = [
+            "MOV CL,02",
+            "MOV AL,01",
+            "MOV CW,0300",
+            "MOV IX,0401",
+            "INC IY",
+            "MOV DW,0010",
+        ]
+        .iter()
+        .map(|words| line(&format!("FFF46 9000               {words}")).unwrap())
+        .collect();
+        let set = set_by(&lead.iter().collect::<Vec<_>>());
+        let wanted =
+            [("CL", 2), ("AL", 1), ("IX", 0x401)].map(|(name, value)| (name.to_string(), value));
+        assert_eq!(set, wanted);
+        assert!(share("AL", "AW") && !share("AL", "AH") && !share("BP", "BW"));
     }
 }

@@ -113,6 +113,7 @@ fn sentences() -> Result<String, Refused> {
             address: line.address,
             notes: &notes,
             before: None,
+            set: &[],
             start: 0,
             shown: &|_| true,
             again: &|_| false,

@@ -12,6 +12,8 @@ pub struct Here<'a> {
     pub notes: &'a Notes,
     /// The instruction, with its address, from which alone this one is reached.
     pub before: Option<(u32, &'a Instruction)>,
+    /// Registers that the lines right before set to a number.
+    pub set: &'a [(String, u16)],
     /// The image's first address.
     pub start: u32,
     /// Whether a line of code stands at an address, so that one can be sent there.
@@ -106,6 +108,42 @@ impl Here<'_> {
         }
     }
 
+    fn known_value(&self, register: &str) -> Option<u16> {
+        let found = self.set.iter().find(|(name, _)| name == register);
+        found.map(|(_, value)| *value)
+    }
+
+    /// A register that says how many.
+    pub fn count(&self, register: &str) -> String {
+        let noted = self.notes.operand(self.address, register);
+        match (noted, self.known_value(register)) {
+            (None, Some(value)) => format!("{register} ({value})"),
+            _ => self.register(register),
+        }
+    }
+
+    /// A port by its number, with its name.
+    pub fn port(&self, port: u16) -> String {
+        match self.notes.port(port) {
+            Some(name) => format!("{name} (port {port:02X}h)"),
+            None => format!("port {port:02X}h"),
+        }
+    }
+
+    /// A port by the register that holds its number.
+    pub fn port_in(&self, operand: &Operand) -> String {
+        if let Operand::Register(register) = operand {
+            let noted = self.notes.operand(self.address, register);
+            if let (None, Some(port)) = (noted, self.known_value(register)) {
+                return match self.notes.port(port) {
+                    Some(name) => format!("{name} (port {port:02X}h, in {register})"),
+                    None => format!("port {port:02X}h (in {register})"),
+                };
+            }
+        }
+        format!("the port whose number is in {}", self.value(operand))
+    }
+
     /// A number with its name, or in the way that is given.
     pub fn number(&self, value: u16, typed: &str, otherwise: fn(u16) -> String) -> String {
         match self.notes.operand(self.address, typed) {
@@ -128,12 +166,20 @@ impl Here<'_> {
         format!("{}:{sum}", memory.segment)
     }
 
+    /// The cell to which a single register was set.
+    fn set_to(&self, register: &str, memory: &Memory) -> Option<&str> {
+        let alone = memory.registers.len() == 1;
+        let base = self.known_value(register).filter(|_| alone)?;
+        self.notes.cell(base.wrapping_add(memory.displacement))
+    }
+
     /// What the notes call the cell, or what its registers point to.
     fn known(&self, memory: &Memory) -> Option<String> {
-        let pointed = memory
-            .registers
-            .iter()
-            .filter_map(|r| self.notes.operand(self.address, r));
+        let pointed = memory.registers.iter().filter_map(|r| {
+            self.notes
+                .operand(self.address, r)
+                .or(self.set_to(r, memory))
+        });
         let table = (memory.displacement != 0)
             .then(|| self.notes.cell(memory.displacement))
             .flatten();

@@ -31,12 +31,12 @@ pub fn sentence(name: &str, operands: &[Operand], here: &Here) -> Option<String>
         ),
         ("STM", [Memory(to)]) => format!("store {acc} at {}; IY moves on", here.place(to)),
         ("INM", [Memory(to), port]) => {
-            let (port, to) = (here.value(port), here.place(to));
-            format!("read a {what} from the port whose number is in {port} and store it at {to}; IY moves on")
+            let (port, to) = (here.port_in(port), here.place(to));
+            format!("read a {what} from {port} and store it at {to}; IY moves on")
         }
         ("OUTM", [port, Memory(from)]) => {
-            let (port, from) = (here.value(port), here.place(from));
-            format!("write the {what} at {from} to the port whose number is in {port}; IX moves on")
+            let (port, from) = (here.port_in(port), here.place(from));
+            format!("write the {what} at {from} to {port}; IX moves on")
         }
         _ => return None,
     })
@@ -47,7 +47,7 @@ fn each(name: &str, operands: &[Operand], here: &Here) -> Option<String> {
     let held = operands.iter().find(|o| matches!(o, Memory(_)))?;
     let what = byte_or_word(held);
     let acc = here.register(accumulator(held));
-    let many = format!("as many {what}s as {} says", here.register("CW"));
+    let many = format!("as many {what}s as {} says", here.count("CW"));
     Some(match (name, operands) {
         ("MOVBK", [Memory(to), Memory(from)]) => {
             format!(
@@ -67,14 +67,12 @@ fn each(name: &str, operands: &[Operand], here: &Here) -> Option<String> {
         ),
         ("STM", [Memory(to)]) => format!("fill {many}, from {} on, with {acc}", here.place(to)),
         ("INM", [Memory(to), port]) => {
-            let (port, to) = (here.value(port), here.place(to));
-            format!(
-                "read {many} from the port whose number is in {port}, and store them from {to} on"
-            )
+            let (port, to) = (here.port_in(port), here.place(to));
+            format!("read {many} from {port}, and store them from {to} on")
         }
         ("OUTM", [port, Memory(from)]) => {
-            let (port, from) = (here.value(port), here.place(from));
-            format!("write {many}, from {from} on, to the port whose number is in {port}")
+            let (port, from) = (here.port_in(port), here.place(from));
+            format!("write {many}, from {from} on, to {port}")
         }
         _ => return None,
     })

@@ -11,7 +11,7 @@ fn length(code: &Operand, here: &Here) -> String {
 }
 
 pub fn sentence(name: &str, operands: &[Operand], here: &Here) -> Option<String> {
-    let count = || format!("as many as {} says", here.register("CL"));
+    let count = || format!("as many as {} says", here.count("CL"));
     Some(match (name, operands) {
         ("ADD4S", [Memory(to), Memory(by)]) => {
             let (to, by) = (here.place(to), here.place(by));

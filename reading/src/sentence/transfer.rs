@@ -1,5 +1,5 @@
 //! MOV and its like, ports, and what concerns the processor as a whole.
-use super::byte_or_word;
+use super::{accumulator, byte_or_word};
 use crate::operand::Operand::{self, Fixed, Memory, Number, Register, Segment};
 use crate::phrase::{both, in_hex, Here};
 
@@ -25,30 +25,34 @@ fn moved(to: &Operand, by: &Operand, here: &Here) -> String {
 /// A port: its number or DW, and its name.
 fn port(operand: &Operand, here: &Here) -> String {
     match operand {
-        Number(port, _) => match here.notes.port(*port) {
-            Some(name) => format!("{name} (port {port:02X}h)"),
-            None => format!("port {port:02X}h"),
-        },
-        other => format!("the port whose number is in {}", here.value(other)),
+        Number(port, _) => here.port(*port),
+        other => here.port_in(other),
     }
 }
 
-/// What passes through a port: the name that the notes have for the register, or its width.
-fn passing(register: &Operand, here: &Here) -> String {
-    let Register(name) = register else {
-        return here.value(register);
-    };
-    match here.notes.operand(here.address, name) {
-        Some(held) => held.to_string(),
-        None => format!("a {}", byte_or_word(register)),
+/// What a register holds, by the notes.
+fn held<'a>(register: &Operand, here: &'a Here) -> Option<&'a str> {
+    match register {
+        Register(name) => here.notes.operand(here.address, name),
+        _ => None,
     }
 }
 
-fn register_name(operand: &Operand) -> &str {
-    match operand {
-        Register(name) => name,
-        _ => "",
-    }
+fn read(to: &Operand, from: &Operand, here: &Here) -> String {
+    let what = held(to, here).map_or(format!("a {}", byte_or_word(to)), str::to_string);
+    format!(
+        "read {what} from {} into {}",
+        port(from, here),
+        accumulator(to)
+    )
+}
+
+fn written(to: &Operand, from: &Operand, here: &Here) -> String {
+    let register = accumulator(from);
+    let what = held(from, here).map_or(register.to_string(), |name| {
+        format!("{name} (in {register})")
+    });
+    format!("write {what} to {}", port(to, here))
 }
 
 pub fn sentence(name: &str, operands: &[Operand], here: &Here) -> Option<String> {
@@ -82,22 +86,8 @@ pub fn sentence(name: &str, operands: &[Operand], here: &Here) -> Option<String>
             )
         }
         ("XCH", [one, other]) => format!("exchange {} and {}", here.value(one), here.value(other)),
-        ("IN", [to, from]) => {
-            format!(
-                "read {} from {} into {}",
-                passing(to, here),
-                port(from, here),
-                register_name(to)
-            )
-        }
-        ("OUT", [to, from]) => {
-            format!(
-                "write {} in {} to {}",
-                passing(from, here),
-                register_name(from),
-                port(to, here)
-            )
-        }
+        ("IN", [to, from]) => read(to, from, here),
+        ("OUT", [to, from]) => written(to, from, here),
         ("NOP", []) => "do nothing".to_string(),
         ("HALT", []) => "stop, until an interrupt comes".to_string(),
         ("DI", []) => "hold off interrupts that can be held off (IE becomes 0)".to_string(),
