@@ -239,9 +239,9 @@ impl Here<'_> {
         if (self.shown)(address) {
             vec![Piece::Link(address, self.name(address))]
         } else if address < self.start {
-            words(format!("{}, outside of this ROM,", self.name(address)))
+            words(format!("{} (outside of this ROM)", self.name(address)))
         } else {
-            words(format!("{}, inside of another line,", self.name(address)))
+            words(format!("{} (inside of another line)", self.name(address)))
         }
     }
 

@@ -102,3 +102,50 @@ fn no_sentence_for_other_words() {
     };
     assert_eq!(sentence(&strange, &here), None);
 }
+
+#[test]
+fn where_no_line_is_shown() {
+    let notes = Notes::default();
+    for (target, wanted) in [
+        ("00123", "outside of this ROM"),
+        ("FFF45", "inside of another line"),
+    ] {
+        let line = line(&format!("FFF46 E80000             CALL {target}")).unwrap();
+        let here = Here {
+            address: line.address,
+            notes: &notes,
+            before: None,
+            set: &[],
+            start: 0xFFF00,
+            shown: &|_| false,
+            again: &|_| false,
+        };
+        let told = plain(&sentence(&line.instruction, &here).unwrap());
+        assert_eq!(
+            told,
+            format!("Do the routine {target} ({wanted}) and come back here.")
+        );
+    }
+}
+
+#[test]
+fn what_the_lines_before_set() {
+    let line = line("FFF46 F36C               REP INM BYTE DS1:[IY],DW").unwrap();
+    let notes = Notes::parse("port 10 the tape\ncell 0405 the time").unwrap();
+    let set =
+        [("CW", 3), ("DW", 0x10), ("IY", 0x405)].map(|(name, value)| (name.to_string(), value));
+    let here = Here {
+        address: line.address,
+        notes: &notes,
+        before: None,
+        set: &set,
+        start: 0xFFF00,
+        shown: &|_| true,
+        again: &|_| false,
+    };
+    let told = plain(&sentence(&line.instruction, &here).unwrap());
+    assert_eq!(
+        told,
+        "Read as many bytes as CW (3) says from the tape (port 10h, in DW), and store them from DS1:IY (the time) on."
+    );
+}
