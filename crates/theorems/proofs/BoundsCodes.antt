@@ -190,7 +190,7 @@ of-bytes80 p =
     also (λ n. leaf ok)
     also (λ n. leaf ok)
     also (λ n. leaf ok)
-    also (λ n. of-withByte _ λ v. ok)
+    also (λ n. of-withByte _ λ v h. ok)
     also (λ n. of-withWord _ λ v. ok)
     also none-more
 
@@ -207,7 +207,7 @@ of-bytesC0 p =
     also (λ n. of-withWord _ λ v. ok)
     also (λ n. leaf ok)
     also (λ n. leaf ok)
-    also (λ n. of-withByte _ λ v. ok)
+    also (λ n. of-withByte _ λ v h. ok)
     also (λ n. leaf ok)
     also (λ n. leaf ok)
     also of-shiftGroup p _ some-leaf
@@ -219,8 +219,8 @@ of-bytesC0 p =
     also (λ n. of-withShort _ λ v. ok)
     also (λ n. of-withShort _ λ v. ok)
     also (λ n. of-withShort _ λ v. ok)
-    also (λ n. of-withByte _ λ v. ok)
-    also (λ n. of-withByte _ λ v. ok)
+    also (λ n. of-withByte _ λ v h. h)
+    also (λ n. of-withByte _ λ v h. h)
     also (λ n. of-withWord _ λ v. ok)
     also (λ n. of-withWord _ λ v. ok)
     also (λ n. of-withFar _ λ ps pc. ok)

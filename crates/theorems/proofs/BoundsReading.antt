@@ -1,4 +1,4 @@
--- What bytes can name, by the rules of reading: PREPARE's level is at most 255, and a refusal is 3 or 4.
+-- What bytes can name, by the rules of reading: PREPARE's level and a port's number are at most 255, and a refusal is 3 or 4.
 use Prim.Native.Nat.{ℕ, _+_, _-_, _≤_}
 use mathlib.Core.Bool.{Bool, _&&_}
 use mathlib.Core.List.{List, [], _∷_, _++_}
@@ -9,6 +9,10 @@ use Rattle.sheet.specs.declared.Source.{Source}
 use Rattle.sheet.specs.declared.Source.the-variants.{Immediate}
 use Rattle.sheet.specs.declared.Prefixes.{Prefixes}
 use Rattle.sheet.specs.declared.Instr.{Instr}
+use Rattle.sheet.specs.declared.Port.{Port}
+use Rattle.sheet.specs.declared.Port.the-variants.{InDw, Numbered}
+use Rattle.sheet.specs.declared.Io.{Io}
+use Rattle.sheet.specs.declared.Io.the-variants.{In, Out}
 use Rattle.sheet.specs.declared.Move.{Move}
 use Rattle.sheet.specs.declared.Move.the-variants.{Transfers, Stacks, Branches, Tests}
 use Rattle.sheet.specs.declared.Instr.the-variants.{Computes, Moves, Multiplies, Interrupts, Blocks, Ports, Controls}
@@ -110,19 +114,29 @@ levelAmong (Stacks i) = levelOf i
 levelAmong (Branches i) = 0
 levelAmong (Tests i) = 0
 
-abbrev pub levelIn : Instr → ℕ
-levelIn (Computes i) = 0
-levelIn (Moves i) = levelAmong i
-levelIn (Multiplies i) = 0
-levelIn (Interrupts i) = 0
-levelIn (Blocks k w seg q) = 0
-levelIn (Ports i) = 0
-levelIn (Controls i) = 0
+-- a port's number, where the instruction gives it
+abbrev numberIn : Port → ℕ
+numberIn InDw = 0
+numberIn (Numbered n) = n
+
+abbrev pub portIn : Io → ℕ
+portIn (In w port) = numberIn port
+portIn (Out w port) = numberIn port
+
+-- the level or the port; others have none
+abbrev pub byteIn : Instr → ℕ
+byteIn (Computes i) = 0
+byteIn (Moves i) = levelAmong i
+byteIn (Multiplies i) = 0
+byteIn (Interrupts i) = 0
+byteIn (Blocks k w seg q) = 0
+byteIn (Ports i) = portIn i
+byteIn (Controls i) = 0
 
 abbrev pub Fine : Instr → Type 0
-Fine i = levelIn i ≤ 255
+Fine i = byteIn i ≤ 255
 
--- an instruction without a level
+-- an instruction with neither
 pub ok : 0 ≤ 255
 ok = lit≤ tt
 
@@ -142,9 +156,9 @@ pub of-withAcc : (k : Source → Instr) (w : Bool) → ((v : Source) → Fine (k
 unfolding withAcc
 of-withAcc k w h = into _ (of-immediate w) λ v. h (Immediate v)
 
-pub of-withByte : (k : ℕ → Instr) → ((v : ℕ) → Fine (k v)) → Leaf Fine (withByte k)
+pub of-withByte : (k : ℕ → Instr) → ((v : ℕ) → v ≤ 255 → Fine (k v)) → Leaf Fine (withByte k)
 unfolding withByte
-of-withByte k h = into k of-byte h
+of-withByte k h = bind of-byte λ v l. leaf (h v l)
 
 pub of-withWord : (k : ℕ → Instr) → ((v : ℕ) → Fine (k v)) → Leaf Fine (withWord k)
 unfolding withWord

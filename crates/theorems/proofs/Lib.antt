@@ -1,3 +1,5 @@
+pub mod Quiet
+pub mod Widths
 pub mod RepeatRuns
 pub mod RepeatCount
 pub mod RepeatFile
@@ -20,9 +22,12 @@ pub mod BoundsReading
 pub mod BoundsCodes
 pub mod BoundsStep
 pub mod BoundsPrepare
+pub mod PortOnce
+pub mod Log
 pub mod Calls
 pub mod CallsStandIns
 pub mod CallsCode
 pub mod Runs
 pub mod RunsStandIns
 pub mod RunsCode
+pub mod LogCode

@@ -5,3 +5,5 @@ pub mod Bounds
 pub mod Runs
 pub mod RunsCode
 pub mod StandIns
+pub mod Rows
+pub mod LogCode
