@@ -2,6 +2,7 @@
 use Prim.Native.Nat.{ℕ, _+_, _-_, _≤_}
 use mathlib.Core.Bool.{Bool, _&&_}
 use mathlib.Core.List.{List, [], _∷_, _++_}
+use native.Mathlib.Omega.{arith}
 use lib.Dec.{eqb, lit≤}
 use Rattle.sheet.specs.declared.Address.{Address}
 use Rattle.sheet.specs.declared.Place.{Place}
@@ -24,17 +25,20 @@ use Rattle.sheet.specs.FirstByte.{withPlace, withMemory, withAcc, withByte, wit
 use Rattle.portlog.proofs.Picked.{picked}
 use Rattle.theorems.proofs.BoundsFlow.{levelOf}
 
--- Q holds of all that a reading of bytes up to 255 comes to, and its refusals are 3 and 4
-pub data Leaf {A : Type 0} (Q : A → Type 0) : Reading A → Type 0 where
-  leaf : {a : A} → Q a → Leaf Q (got a)
-  then-byte : {k : ℕ → Reading A} → ((b : ℕ) → b ≤ 255 → Leaf Q (k b)) → Leaf Q (need k)
-  stop : {n : ℕ} → 3 ≤ n → n ≤ 4 → Leaf Q (no n)
+-- Q holds of all that a reading of bytes up to 255 comes to, and its refusals are from 3 up to a top: 4 with prefixes, 3 without
+pub data LeafTo (top : ℕ) {A : Type 0} (Q : A → Type 0) : Reading A → Type 0 where
+  leaf : {a : A} → Q a → LeafTo top Q (got a)
+  then-byte : {k : ℕ → Reading A} → ((b : ℕ) → b ≤ 255 → LeafTo top Q (k b)) → LeafTo top Q (need k)
+  stop : {n : ℕ} → 3 ≤ n → n ≤ top → LeafTo top Q (no n)
 
-pub data Scanned {A : Type 0} (Q : A → Type 0) : Read A → Type 0 where
-  read : {a : A} {n : ℕ} → Q a → Scanned Q (known a n)
-  unread : {r n : ℕ} → 3 ≤ r → r ≤ 4 → Scanned Q (unknown r n)
+abbrev pub Leaf : {A : Type 0} → (A → Type 0) → Reading A → Type 0
+Leaf Q p = LeafTo 3 Q p
 
-pub scanned : {A : Type 0} {Q : A → Type 0} (p : Reading A) → Leaf Q p → (src : ℕ → ℕ) → ((j : ℕ) → src j ≤ 255) → (i : ℕ) → Scanned Q (scan p src i)
+pub data ScannedTo (top : ℕ) {A : Type 0} (Q : A → Type 0) : Read A → Type 0 where
+  read : {a : A} {n : ℕ} → Q a → ScannedTo top Q (known a n)
+  unread : {r n : ℕ} → 3 ≤ r → r ≤ top → ScannedTo top Q (unknown r n)
+
+pub scanned : {top : ℕ} {A : Type 0} {Q : A → Type 0} (p : Reading A) → LeafTo top Q p → (src : ℕ → ℕ) → ((j : ℕ) → src j ≤ 255) → (i : ℕ) → ScannedTo top Q (scan p src i)
 unfolding scan
 scanned (got a) (leaf q) src h i = read q
 scanned (need k) (then-byte f) src h i = scanned (k (src i)) (f (src i) (h i)) src h (i + 1)
@@ -42,7 +46,8 @@ scanned (no n) (stop f g) src h i = unread f g
 
 -- ---- joining
 
-pub bind : {A B : Type 0} {P : A → Type 0} {Q : B → Type 0} {p : Reading A} {f : A → Reading B} → Leaf P p → ((a : A) → P a → Leaf Q (f a)) → Leaf Q (p >>= f)
+pub bind : {top : ℕ} {A B : Type 0} {P : A → Type 0} {Q : B → Type 0} {p : Reading A} {f : A → Reading B} → LeafTo top P p → ((a : A) → P a → LeafTo top Q (f a))
+    → LeafTo top Q (p >>= f)
 unfolding _>>=_
 bind {p = got a} (leaf q) g = g a q
 bind {p = need k} (then-byte h) g = then-byte λ b l. bind (h b l) g
@@ -50,6 +55,12 @@ bind {p = no n} (stop x y) g = stop x y
 
 pub either : {A : Type 0} {Q : A → Type 0} {p q : Reading A} (c : Bool) → Leaf Q p → Leaf Q q → Leaf Q (pick c p q)
 either {A} {Q} = picked (λ (r : Reading A). Leaf Q r)
+
+-- refusals up to 3 are refusals up to 4
+pub also-fourth : {A : Type 0} {Q : A → Type 0} (p : Reading A) → Leaf Q p → LeafTo 4 Q p
+also-fourth (got a) (leaf q) = leaf q
+also-fourth (need k) (then-byte h) = then-byte λ b l. also-fourth (k b) (h b l)
+also-fourth (no n) (stop x y) = let z : n ≤ 4 = omega arith in stop x z
 
 -- nothing is asked of it
 abbrev pub Any : {A : Type 0} → A → Type 0
@@ -63,7 +74,7 @@ unknown-code = stop (lit≤ tt) (lit≤ tt)
 
 -- ---- numbers and places
 
-pub of-byte : Leaf (λ b. b ≤ 255) byte
+pub of-byte : {top : ℕ} → LeafTo top (λ b. b ≤ 255) byte
 of-byte = then-byte λ b h. leaf h
 
 pub of-word : Leaf Any word

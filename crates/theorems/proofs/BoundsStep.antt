@@ -35,7 +35,7 @@ use Rattle.theorems.proofs.BoundsRules.{Within, within, short-of, MostO
 use Rattle.theorems.proofs.BoundsOperands.{of-trap}
 use Rattle.theorems.proofs.BoundsGroups.{of-transfer, of-calculate, of-untrapped, of-multiply, of-convert, of-shift, of-bits, of-decimal, of-field}
 use Rattle.theorems.proofs.BoundsFlow.{of-stack, of-branch, of-conditional, of-interrupts, of-block, of-ports, of-control}
-use Rattle.theorems.proofs.BoundsReading.{levelAmong, Fine, Scanned, read, unread, scanned}
+use Rattle.theorems.proofs.BoundsReading.{levelAmong, Fine, ScannedTo, read, unread, scanned}
 use Rattle.theorems.proofs.BoundsCodes.{of-instruction}
 
 -- ---- an instruction
@@ -95,7 +95,7 @@ of-stepping i h n = seq (any of-flag) λ traced. seq (of-execute i h n) λ trapp
 
 -- ---- the bytes of the instruction
 
-pub reads-fine : (w : World) → Bytes (w .ram) → Bytes (w .rom) → Scanned Fine (scan instruction (source w) 0)
+pub reads-fine : (w : World) → Bytes (w .ram) → Bytes (w .rom) → ScannedTo 4 Fine (scan instruction (source w) 0)
 reads-fine w h g = scanned instruction of-instruction (source w) (λ j. byte-top (w .ram) (w .rom) h g (codeAt (fileOf (w .state .file) PS) (fileOf (w .state .file) PC) j)) 0
 
 -- ---- the calls
@@ -133,7 +133,7 @@ pub step-comes : (w : World) → Bytes (w .ram) → Bytes (w .rom) → Comes ste
 unfolding step stepBy awake decoded exec run
 step-comes w h g = checked-comes w (awake kept w) (go (w .state .marks .halted) (scan instruction (source w) 0) (reads-fine w h g))
   where
-    go : (t : Bool) (r : Read Instr) → Scanned Fine r → Comes stepTop stepRefusals (seen (pick t (refusal 8) (decoded kept r w)))
+    go : (t : Bool) (r : Read Instr) → ScannedTo 4 Fine r → Comes stepTop stepRefusals (seen (pick t (refusal 8) (decoded kept r w)))
     go false (known i n) (read q) = within-step _ (of-stepping i q n .at (counted w))
     go false (unknown k n) (unread a b) = stops-by (as-read k a b)
     go true r q = stops-by (later (later first))

@@ -31,3 +31,6 @@ pub mod Runs
 pub mod RunsStandIns
 pub mod RunsCode
 pub mod LogCode
+pub mod Outcomes
+pub mod RunsFirst
+pub mod Borrow

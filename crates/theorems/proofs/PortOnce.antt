@@ -1,11 +1,15 @@
--- A step makes at most one record, whose numbers are those that a record may have.
-use Prim.Native.Nat.{ℕ, _+_, _%_, _≤_}
-use mathlib.Core.Path.{_≡_, refl, sym, subst}
-use mathlib.Core.Bool.{Bool, true, false}
+-- A step makes the record of the one port access that its instruction makes, and no other; and when it is refused by 5 or 6.
+use Prim.Native.Nat.{ℕ, _+_, _%_, _≤_, _<_}
+use mathlib.Core.Path.{_≡_, refl, sym, ap, subst, _∙_}
+use mathlib.Core.Bool.{Bool, true, false, _&&_, and-eq-true-iff}
 use mathlib.Core.List.{List, [], _∷_}
+use mathlib.Core.Logic.{_≢_}
+use native.Mathlib.Nat.{add-zero}
 use native.Mathlib.Omega.{arith}
-use lib.ListN.{length}
-use lib.Dec.{eqb, leb, lit≤}
+use lib.ListN.{length, getD, set}
+use lib.Seq.{getD-set-other}
+use lib.Dec.{eqb, leb, ltb, lit≤}
+use borrow.Author.Tests.{leb-true, leb-false}
 use Rattle.sheet.specs.declared.Instr.{Instr}
 use Rattle.sheet.specs.declared.Instr.the-variants.{Computes, Moves, Multiplies, Interrupts, Blocks, Ports, Controls}
 use Rattle.sheet.specs.declared.Primitive.{Primitive}
@@ -15,190 +19,346 @@ use Rattle.sheet.specs.declared.Repeat.the-variants.{Once, WhileZ, WhileNotZ, W
 use Rattle.sheet.specs.declared.Port.the-variants.{InDw, Numbered}
 use Rattle.sheet.specs.declared.Io.{Io}
 use Rattle.sheet.specs.declared.Io.the-variants.{In, Out}
-use Rattle.sheet.specs.Width.{bytesOf, add16}
-use Rattle.sheet.specs.Psw.{Flag, Choice, flagOf}
-use Rattle.sheet.specs.Registers.{AW, CW, DW, File, fileOf, written}
+use Rattle.sheet.specs.Width.{pick, bytesOf, add16}
+use Rattle.sheet.specs.Psw.{Flag, Choice, flagOf, fixedOf}
+use Rattle.sheet.specs.Registers.{AW, CW, DW, IX, PC, PSW, File, fileOf, written, segment, readReg}
 use Rattle.sheet.specs.Memory.{readMem}
-use Rattle.sheet.specs.Log.{rule, keyOf, recordBytes}
-use Rattle.sheet.specs.World.{World, withState, pswOf, withFile}
+use Rattle.sheet.specs.Log.{rule, keyOf, recordBytes, writeLog}
+use Rattle.sheet.specs.World.{World, world, withState, pswOf, withFile, recorded}
 use Rattle.sheet.specs.Act.{Act, pure, get, put, ask, load, input, output, _>>=_}
-use Rattle.sheet.specs.Handler.{Event, reads, takes, gives, asks, Outcome, refused, done, kept, then, Access, short, through, taped, recording, inputs, outputs, ported, runBy}
+use Rattle.sheet.specs.Handler.{Event, reads, takes, gives, asks, Outcome, refused, done, kept, then, short, through, taped, recording, inputs, outputs, ported, runBy}
 use Rattle.sheet.specs.Operand.{regValue}
 use Rattle.sheet.specs.Block.{sourceElement, primitive, element, repeated, block}
 use Rattle.sheet.specs.Ports.{portNumber, ports}
-use Rattle.sheet.specs.Reading.{Read, known, scan}
-use Rattle.sheet.specs.FirstByte.{instruction}
+use Rattle.sheet.specs.Reading.{known}
 use Rattle.sheet.specs.Traps.{untrapped}
 use Rattle.sheet.specs.Execute.{operation, execute}
-use Rattle.sheet.specs.Step.{source, counted, stepping, step}
-use Rattle.sheet.proofs.StepLaws.{begins}
+use Rattle.sheet.specs.Step.{fits, sound, counted, stepping, step}
+use Rattle.sheet.proofs.StepLaws.{Stepped, begins}
 use Rattle.portlog.specs.Whole.{Row, Sound}
 use Rattle.portlog.proofs.Growth.{access-sound}
 use Rattle.portlog.proofs.Picked.{picked}
+use Rattle.theorems.specs.Repeat.{reg, repeats}
 use Rattle.theorems.specs.StandIns.{lendable}
-use Rattle.theorems.specs.Rows.{rowOf, rowsOf}
+use Rattle.theorems.specs.Rows.{Use, none, access, rowsOfUse, rowsOf}
+use Rattle.theorems.specs.Access.{takenBy, ofIo, ofPrimitive, accessOf, tapeNeed, logNeed}
+use Rattle.theorems.specs.Outcomes.{Passes}
 use Rattle.theorems.proofs.Quiet.{Quiet, q-pure, quiet-seq, Silent, silent, quiet-silent}
-use Rattle.theorems.proofs.Widths.{Holds, holds-lent, topOf, Words, file-words, written-under, register-top, memory-top, taped-top}
+use Rattle.theorems.proofs.Widths.{Holds, holds-lent, topOf, file-words, register-top, memory-top, taped-top}
 use Rattle.theorems.proofs.BoundsOperands.{of-setReg}
 use Rattle.theorems.proofs.BoundsFlow.{of-stepIndex, of-setTarget, of-primitive, of-afterElement}
-use Rattle.theorems.proofs.BoundsReading.{Fine, Scanned, read}
+use Rattle.theorems.proofs.BoundsReading.{Fine, ScannedTo, read}
 use Rattle.theorems.proofs.BoundsStep.{of-operation, of-singleStep, reads-fine}
 
--- ---- trees that use at most one port, where registers, memory and tape hold numbers in their widths
+-- ---- trees that, begun in a world, come to one access
 
-data OnePort {A : Type 0} : Act A → Type 0 where
-  no-port : {p : Act A} → Quiet p → OnePort p
-  o-get : {k : File → Act A} → ((r : File) → Words r → OnePort (k r)) → OnePort (get k)
-  o-put : {n v : ℕ} {p : Act A} → v ≤ 65535 → OnePort p → OnePort (put n v p)
-  o-ask : {f : Flag} {k : Bool → Act A} → ((b : Bool) → OnePort (k b)) → OnePort (ask f k)
-  o-load : {b : Bool} {g o : ℕ} {k : ℕ → Act A} → ((v : ℕ) → v ≤ topOf b → OnePort (k v)) → OnePort (load b g o k)
-  o-input : {b : Bool} {n : ℕ} {k : ℕ → Act A} → n ≤ 65535 → ((v : ℕ) → Quiet (k v)) → OnePort (input b n k)
-  o-output : {b : Bool} {n v : ℕ} {p : Act A} → n ≤ 65535 → v ≤ topOf b → Quiet p → OnePort (output b n v p)
+data Leads {A : Type 0} : Act A → World → Use → Type 0 where
+  l-quiet : {p : Act A} {w : World} → Quiet p → Leads p w none
+  l-get : {k : File → Act A} {w : World} {due : Use} → Leads (k (fileOf (w .state .file))) w due → Leads (get k) w due
+  l-put : {n v : ℕ} {p : Act A} {w : World} {due : Use} → Leads p (withState w (withFile (w .state) (written (w .state .file) n v))) due → Leads (put n v p) w due
+  l-ask : {f : Flag} {k : Bool → Act A} {w : World} {due : Use} → Leads (k (flagOf (pswOf (w .state)) f)) w due → Leads (ask f k) w due
+  l-load : {b : Bool} {g o : ℕ} {k : ℕ → Act A} {w : World} {due : Use} → Leads (k (readMem b (w .ram) (w .rom) g o)) w due → Leads (load b g o k) w due
+  l-input : {b : Bool} {n : ℕ} {k : ℕ → Act A} {w : World} → ((v : ℕ) → Quiet (k v)) → Leads (input b n k) w (takenBy w b n)
+  l-output : {b : Bool} {n v : ℕ} {p : Act A} {w : World} → Quiet p → Leads (output b n v p) w (access true b n v)
 
--- what comes behind it uses none
-one-then : {A B : Type 0} {p : Act A} {f : A → Act B} → OnePort p → ((a : A) → Quiet (f a)) → OnePort (p >>= f)
+-- what comes behind it uses no port
+leads-then : {A B : Type 0} {p : Act A} {w : World} {due : Use} {f : A → Act B} → Leads p w due → ((a : A) → Quiet (f a)) → Leads (p >>= f) w due
 unfolding _>>=_
-one-then (no-port q) g = no-port (quiet-seq q g)
-one-then (o-get h) g = o-get λ r l. one-then (h r l) g
-one-then (o-put l h) g = o-put l (one-then h g)
-one-then (o-ask h) g = o-ask λ b. one-then (h b) g
-one-then (o-load h) g = o-load λ v l. one-then (h v l) g
-one-then (o-input l h) g = o-input l λ v. quiet-seq (h v) g
-one-then (o-output l m q) g = o-output l m (quiet-seq q g)
+leads-then (l-quiet q) g = l-quiet (quiet-seq q g)
+leads-then (l-get h) g = l-get (leads-then h g)
+leads-then (l-put h) g = l-put (leads-then h g)
+leads-then (l-ask h) g = l-ask (leads-then h g)
+leads-then (l-load h) g = l-load (leads-then h g)
+leads-then (l-input h) g = l-input λ v. quiet-seq (h v) g
+leads-then (l-output q) g = l-output (quiet-seq q g)
 
-byte-word : (n : ℕ) → n ≤ 255 → n ≤ 65535
-byte-word n h = omega arith
-
-one-ports : (i : Io) → Fine (Ports i) → OnePort (ports i)
+leads-ports : (i : Io) (w : World) → Leads (ports i) w (ofIo w i)
 unfolding ports portNumber regValue _>>=_
-one-ports (In w InDw) h = o-get λ r l. o-input (l DW) λ v. of-setReg w AW v .quiet refl
-one-ports (In w (Numbered n)) h = o-input (byte-word n h) λ v. of-setReg w AW v .quiet refl
-one-ports (Out w InDw) h = o-get λ r l. o-get λ q m. o-output (l DW) (register-top w q AW m) q-pure
-one-ports (Out w (Numbered n)) h = o-get λ q m. o-output (byte-word n h) (register-top w q AW m) q-pure
+leads-ports (In b InDw) w = l-get (l-input λ v. of-setReg b AW v .quiet refl)
+leads-ports (In b (Numbered n)) w = l-input λ v. of-setReg b AW v .quiet refl
+leads-ports (Out b InDw) w = l-get (l-get (l-output q-pure))
+leads-ports (Out b (Numbered n)) w = l-get (l-output q-pure)
 
-one-primitive : (k : Primitive) (w : Bool) (seg : ℕ) → OnePort (primitive k w seg)
+leads-primitive : (k : Primitive) (b : Bool) (seg : ℕ) (w : World) → Leads (primitive k b seg) w (ofPrimitive w k b seg)
 unfolding primitive sourceElement _>>=_
-one-primitive Movbk w seg = no-port (of-primitive Movbk w seg .quiet refl)
-one-primitive Cmpbk w seg = no-port (of-primitive Cmpbk w seg .quiet refl)
-one-primitive Cmpm w seg = no-port (of-primitive Cmpm w seg .quiet refl)
-one-primitive Ldm w seg = no-port (of-primitive Ldm w seg .quiet refl)
-one-primitive Stm w seg = no-port (of-primitive Stm w seg .quiet refl)
-one-primitive Inm w seg = o-get λ r l. o-input (l DW) λ v. quiet-seq (of-setTarget w v .quiet refl) λ _. of-stepIndex w _ .quiet refl
-one-primitive Outm w seg = o-get λ r l. o-load λ v m. o-get λ q k. o-output (k DW) m (of-stepIndex w _ .quiet refl)
+leads-primitive Movbk b seg w = l-quiet (of-primitive Movbk b seg .quiet refl)
+leads-primitive Cmpbk b seg w = l-quiet (of-primitive Cmpbk b seg .quiet refl)
+leads-primitive Cmpm b seg w = l-quiet (of-primitive Cmpm b seg .quiet refl)
+leads-primitive Ldm b seg w = l-quiet (of-primitive Ldm b seg .quiet refl)
+leads-primitive Stm b seg w = l-quiet (of-primitive Stm b seg .quiet refl)
+leads-primitive Inm b seg w = l-get (l-input λ v. quiet-seq (of-setTarget b v .quiet refl) λ _. of-stepIndex b _ .quiet refl)
+leads-primitive Outm b seg w = l-get (l-load (l-get (l-output (of-stepIndex b _ .quiet refl))))
 
-one-repeated : (k : Primitive) (w : Bool) (seg : ℕ) (q : Repeat) (start : ℕ) → OnePort (repeated k w seg q start)
+leads-repeated : (k : Primitive) (b : Bool) (seg : ℕ) (q : Repeat) (start : ℕ) (w : World)
+    → Leads (repeated k b seg q start) w (pick (eqb (reg w CW) 0) none (ofPrimitive w k b seg))
 unfolding repeated element _>>=_
-one-repeated k w seg q start =
-    o-get λ r l. picked OnePort (eqb (r CW) 0) (no-port q-pure) (one-then (one-primitive k w seg) λ _. of-afterElement k q start .quiet refl)
+leads-repeated k b seg q start w = l-get (go (eqb (reg w CW) 0))
+  where
+    go : (z : Bool) → Leads (pick z (pure tt) (element k b seg q start)) w (pick z none (ofPrimitive w k b seg))
+    go true = l-quiet q-pure
+    go false = leads-then (leads-primitive k b seg w) λ _. of-afterElement k q start .quiet refl
 
-one-block : (k : Primitive) (w : Bool) (seg : ℕ) (q : Repeat) (start : ℕ) → OnePort (block k w seg q start)
-unfolding block
-one-block k w seg Once start = one-primitive k w seg
-one-block k w seg WhileZ start = one-repeated k w seg WhileZ start
-one-block k w seg WhileNotZ start = one-repeated k w seg WhileNotZ start
-one-block k w seg WhileCy start = one-repeated k w seg WhileCy start
-one-block k w seg WhileNotCy start = one-repeated k w seg WhileNotCy start
+leads-operation : (i : Instr) → Fine i → (start : ℕ) (w : World) → Leads (operation i start) w (accessOf w i)
+unfolding operation untrapped block
+leads-operation (Computes i) h start w = l-quiet (of-operation (Computes i) h start .quiet refl)
+leads-operation (Moves i) h start w = l-quiet (of-operation (Moves i) h start .quiet refl)
+leads-operation (Multiplies i) h start w = l-quiet (of-operation (Multiplies i) h start .quiet refl)
+leads-operation (Interrupts i) h start w = l-quiet (of-operation (Interrupts i) h start .quiet refl)
+leads-operation (Blocks k b seg Once) h start w = leads-then (leads-primitive k b seg w) λ _. q-pure
+leads-operation (Blocks k b seg WhileZ) h start w = leads-then (leads-repeated k b seg WhileZ start w) λ _. q-pure
+leads-operation (Blocks k b seg WhileNotZ) h start w = leads-then (leads-repeated k b seg WhileNotZ start w) λ _. q-pure
+leads-operation (Blocks k b seg WhileCy) h start w = leads-then (leads-repeated k b seg WhileCy start w) λ _. q-pure
+leads-operation (Blocks k b seg WhileNotCy) h start w = leads-then (leads-repeated k b seg WhileNotCy start w) λ _. q-pure
+leads-operation (Ports i) h start w = leads-then (leads-ports i w) λ _. q-pure
+leads-operation (Controls i) h start w = l-quiet (of-operation (Controls i) h start .quiet refl)
 
-one-operation : (i : Instr) → Fine i → (start : ℕ) → OnePort (operation i start)
-unfolding operation untrapped
-one-operation (Computes i) h start = no-port (of-operation (Computes i) h start .quiet refl)
-one-operation (Moves i) h start = no-port (of-operation (Moves i) h start .quiet refl)
-one-operation (Multiplies i) h start = no-port (of-operation (Multiplies i) h start .quiet refl)
-one-operation (Interrupts i) h start = no-port (of-operation (Interrupts i) h start .quiet refl)
-one-operation (Blocks k w seg q) h start = one-then (one-block k w seg q start) λ _. q-pure
-one-operation (Ports i) h start = one-then (one-ports i h) λ _. q-pure
-one-operation (Controls i) h start = no-port (of-operation (Controls i) h start .quiet refl)
+-- PC is no part of an access
+pub other-register : (f : List ℕ) (x n : ℕ) → n ≢ PC → fileOf (written f PC x) n ≡ fileOf f n
+other-register f x n h = go (ltb n PSW)
+  where
+    go : (t : Bool) → pick t (getD (set f PC x) n 0) 0 ≡ pick t (getD f n 0) 0
+    go true = getD-set-other f PC n x 0 h
+    go false = refl
 
-wraps : (a b : ℕ) → add16 a b ≤ 65535
-wraps a b = omega arith
+module _ (w : World) (x : ℕ) where
+  -- the instruction has begun: the step is counted, and PC is past it
+  abbrev pub begun : World
+  begun = withState w (withFile (w .state) (written (w .state .file) PC x))
 
-one-execute : (i : Instr) → Fine i → (n : ℕ) → OnePort (execute i n)
-unfolding execute _>>=_
-one-execute i h n = o-get λ r l. o-put (wraps _ n) (one-operation i h _)
+  same-dw : reg begun DW ≡ reg w DW
+  same-dw = other-register (w .state .file) x DW (λ e. omega arith)
 
-one-stepping : (i : Instr) → Fine i → (n : ℕ) → OnePort (stepping i n)
-unfolding stepping _>>=_
-one-stepping i h n = o-ask λ traced. one-then (one-execute i h n) λ trapped. of-singleStep _ .quiet refl
+  same-read : (b : Bool) → readReg b (reg begun) AW ≡ readReg b (reg w) AW
+  unfolding readReg
+  same-read true = other-register (w .state .file) x AW (λ e. omega arith)
+  same-read false = rw (other-register (w .state .file) x AW (λ e. omega arith))
 
--- ---- what comes of such a tree
+  same-segment : (seg : ℕ) → reg begun (segment seg) ≡ reg w (segment seg)
+  same-segment seg = other-register (w .state .file) x (segment seg) (λ e. omega arith)
+
+  same-io : (i : Io) → ofIo begun i ≡ ofIo w i
+  same-io (In b InDw) = ap (takenBy w b) same-dw
+  same-io (In b (Numbered n)) = refl
+  same-io (Out b InDw) = rw (same-dw, same-read b)
+  same-io (Out b (Numbered n)) = rw (same-read b)
+
+  same-primitive : (k : Primitive) (b : Bool) (seg : ℕ) → ofPrimitive begun k b seg ≡ ofPrimitive w k b seg
+  same-primitive Movbk b seg = refl
+  same-primitive Cmpbk b seg = refl
+  same-primitive Cmpm b seg = refl
+  same-primitive Ldm b seg = refl
+  same-primitive Stm b seg = refl
+  same-primitive Inm b seg = ap (takenBy w b) same-dw
+  same-primitive Outm b seg = rw (same-dw, same-segment seg, other-register (w .state .file) x IX (λ e. omega arith))
+
+  same-access : (i : Instr) → accessOf begun i ≡ accessOf w i
+  same-access (Computes i) = refl
+  same-access (Moves i) = refl
+  same-access (Multiplies i) = refl
+  same-access (Interrupts i) = refl
+  same-access (Blocks k b seg q) = rw (other-register (w .state .file) x CW (λ e. omega arith), same-primitive k b seg)
+  same-access (Ports i) = same-io i
+  same-access (Controls i) = refl
+
+-- nor is the count
+io-counted : (w : World) (i : Io) → ofIo (counted w) i ≡ ofIo w i
+unfolding counted
+io-counted w (In b InDw) = refl
+io-counted w (In b (Numbered n)) = refl
+io-counted w (Out b InDw) = refl
+io-counted w (Out b (Numbered n)) = refl
+
+primitive-counted : (w : World) (k : Primitive) (b : Bool) (seg : ℕ) → ofPrimitive (counted w) k b seg ≡ ofPrimitive w k b seg
+unfolding counted
+primitive-counted w Movbk b seg = refl
+primitive-counted w Cmpbk b seg = refl
+primitive-counted w Cmpm b seg = refl
+primitive-counted w Ldm b seg = refl
+primitive-counted w Stm b seg = refl
+primitive-counted w Inm b seg = refl
+primitive-counted w Outm b seg = refl
+
+access-counted : (w : World) (i : Instr) → accessOf (counted w) i ≡ accessOf w i
+unfolding counted
+access-counted w (Computes i) = refl
+access-counted w (Moves i) = refl
+access-counted w (Multiplies i) = refl
+access-counted w (Interrupts i) = refl
+access-counted w (Blocks k b seg q) = ap (pick (repeats q && eqb (reg w CW) 0) none) (primitive-counted w k b seg)
+access-counted w (Ports i) = io-counted w i
+access-counted w (Controls i) = refl
+
+leads-stepping : (i : Instr) → Fine i → (n : ℕ) (w : World) → Leads (stepping i n) w (accessOf w i)
+unfolding stepping execute _>>=_
+leads-stepping i h n w =
+    let x = add16 (reg w PC) n in
+    l-ask (l-get (l-put (subst (Leads _ (begun w x)) (same-access w x i) (leads-then (leads-operation i h (reg w PC) (begun w x)) λ trapped. of-singleStep _ .quiet refl))))
+
+-- ---- what comes of them
+
+-- what passes the checks, as a record
+pub passes : (w : World) → fits w ≡ true → sound w ≡ true → Passes w
+unfolding fits sound
+passes w f e =
+    let (a, e₁) = and-eq-true-iff (fixedOf (pswOf (w .state))) _ .0 e in
+    let (b, e₂) = and-eq-true-iff (leb (w .state .progress .tape) (length (w .tape))) _ .0 e₁ in
+    let (c, d) = and-eq-true-iff (leb (w .state .progress .log) (length (w .log))) _ .0 e₂ in
+    record { fit = leb-true _ _ f; fixed = a; tape-in = leb-true _ _ b; log-in = leb-true _ _ c; count-in = leb-true _ _ d }
+
+-- records of an access, from places and lengths of tape and log, and the gap that is due
+pub data Comes (due : Use) (tape tapes log logs gap : ℕ) {A : Type 0} : Outcome A → Type 0 where
+  tape-short : {n : ℕ} {t : List Event} → n ≡ 5 → tapes < tape + tapeNeed due → Comes due tape tapes log logs gap (refused n t)
+  log-short : {n : ℕ} {t : List Event} → n ≡ 6 → tape + tapeNeed due ≤ tapes → logs < log + logNeed gap due → Comes due tape tapes log logs gap (refused n t)
+  goes : {a : A} {v : World} {t : List Event} → tape + tapeNeed due ≤ tapes → log + logNeed gap due ≤ logs → ((n : ℕ) → rowsOf n t ≡ rowsOfUse n due)
+      → Comes due tape tapes log logs gap (done a v t)
+
+abbrev pub ComesIn : {A : Type 0} → World → Use → Outcome A → Type 0
+ComesIn w due o =
+    Comes due (w .state .progress .tape) (length (w .tape)) (w .state .progress .log) (length (w .log)) (w .state .progress .count) o
+
+comes-then : {A : Type 0} {due : Use} {tape tapes log logs gap : ℕ} (e : Event) {o : Outcome A} → ((n : ℕ) (t : List Event) → rowsOf n (e ∷ t) ≡ rowsOf n t)
+    → Comes due tape tapes log logs gap o → Comes due tape tapes log logs gap (then e o)
+comes-then e h (tape-short i s) = tape-short i s
+comes-then e h (log-short i r s) = log-short i r s
+comes-then e h (goes {t = t} r s g) = goes r s λ n. h n t ∙ g n
+
+silent-comes : {A : Type 0} (w : World) {o : Outcome A} → w .state .progress .tape ≤ length (w .tape) → w .state .progress .log ≤ length (w .log) → Silent o → ComesIn w none o
+silent-comes w i j (silent g) = goes (rw add-zero i) (rw add-zero j) g
+
+-- the events of an access that went through
+data Recorded (due : Use) {A : Type 0} : Outcome A → Type 0 where
+  recorded-so : {a : A} {v : World} {t : List Event} → ((n : ℕ) → rowsOf n t ≡ rowsOfUse n due) → Recorded due (done a v t)
+
+taken-recorded : {A : Type 0} {o : Outcome A} (b : Bool) (port v : ℕ) → Silent o → Recorded (access false b port v) (then (takes b port v) o)
+unfolding rowsOf
+taken-recorded b port v (silent {t = t} g) = recorded-so {t = takes b port v ∷ t} λ n. rw (g 0)
+
+given-recorded : {A : Type 0} {o : Outcome A} (b : Bool) (port v : ℕ) → Silent o → Recorded (access true b port v) (then (gives b port v) o)
+unfolding rowsOf
+given-recorded b port v (silent {t = t} g) = recorded-so {t = gives b port v ∷ t} λ n. rw (g 0)
+
+recorded-goes : {A : Type 0} {due : Use} {tape tapes log logs gap : ℕ} {o : Outcome A} → tape + tapeNeed due ≤ tapes → log + logNeed gap due ≤ logs → Recorded due o
+    → Comes due tape tapes log logs gap o
+recorded-goes i j (recorded-so g) = goes i j g
+
+recording-comes : {A : Type 0} (w : World) (out b : Bool) (port v m : ℕ) (f : ℕ → World → Outcome A)
+    → w .state .progress .tape + tapeNeed (access out b port v) ≤ length (w .tape) → ((x : World) → Recorded (access out b port v) (f v x))
+    → ComesIn w (access out b port v) (ported (recording w v m (recordBytes rule (w .state .progress .count) (keyOf out b port) v)) f)
+unfolding recording
+recording-comes w out b port v m f i h = go (leb (w .state .progress .log + length r) (length (w .log))) refl
+  where
+    r : List ℕ
+    r = recordBytes rule (w .state .progress .count) (keyOf out b port) v
+
+    go : (t : Bool) → leb (w .state .progress .log + length r) (length (w .log)) ≡ t
+        → ComesIn w (access out b port v) (ported (pick t (through v (world (recorded (w .state) m (length r)) (w .ram) (w .rom) (w .tape) (writeLog (w .log) (w .state .progress .log) r))) (short 6)) f)
+    go true e = recorded-goes i (leb-true _ _ e) (h _)
+    go false e = log-short refl i (leb-false _ _ e)
+
+input-comes : {A : Type 0} (w : World) (b : Bool) (port : ℕ) (f : ℕ → World → Outcome A)
+    → ((v : ℕ) (x : World) → Recorded (access false b port v) (f v x)) → ComesIn w (takenBy w b port) (ported (inputs b port w) f)
+unfolding inputs
+input-comes w b port f h = go (leb (w .state .progress .tape + bytesOf b) (length (w .tape))) refl
+  where
+    v : ℕ
+    v = taped b (w .tape) (w .state .progress .tape)
+
+    go : (t : Bool) → leb (w .state .progress .tape + bytesOf b) (length (w .tape)) ≡ t
+        → ComesIn w (takenBy w b port) (ported (pick t (recording w v (bytesOf b) (recordBytes rule (w .state .progress .count) (keyOf false b port) v)) (short 5)) f)
+    go true e = recording-comes w false b port v (bytesOf b) f (leb-true _ _ e) (λ x. h v x)
+    go false e = tape-short refl (leb-false _ _ e)
+
+output-comes : {A : Type 0} (w : World) (b : Bool) (port v : ℕ) (f : ℕ → World → Outcome A) → w .state .progress .tape ≤ length (w .tape)
+    → ((x : World) → Recorded (access true b port v) (f v x)) → ComesIn w (access true b port v) (ported (outputs b port v w) f)
+unfolding outputs
+output-comes w b port v f i h = recording-comes w true b port v 0 f (rw add-zero i) h
+
+leads-come : {A : Type 0} {p : Act A} {w : World} {due : Use} → Leads p w due → (u : ℕ → Choice)
+    → w .state .progress .tape ≤ length (w .tape) → w .state .progress .log ≤ length (w .log) → ComesIn w due (runBy u p w)
+unfolding runBy rowsOf
+leads-come {p = p} {w = w} (l-quiet q) u i j = silent-comes w i j (quiet-silent p q u w)
+leads-come (l-get h) u i j = leads-come h u i j
+leads-come (l-put h) u i j = leads-come h u i j
+leads-come (l-ask {f = f} h) u i j = comes-then (asks f) (λ n t. refl) (leads-come h u i j)
+leads-come (l-load {b = b} {g = g} {o = o} h) u i j = comes-then (reads b g o) (λ n t. refl) (leads-come h u i j)
+leads-come {w = w} (l-input {b = b} {n = n} {k = k} h) u i j =
+    input-comes w b n (λ v x. then (takes b n v) (runBy u (k v) x)) (λ v x. taken-recorded b n v (quiet-silent (k v) (h v) u x))
+leads-come {w = w} (l-output {b = b} {n = n} {v = v} {p = p} q) u i j =
+    output-comes w b n v (λ y x. then (gives b n v) (runBy u p x)) i (λ x. given-recorded b n v (quiet-silent p q u x))
+
+-- the operation of an instruction that was read
+pub stepping-comes : (w : World) → Passes w → (i : Instr) → Fine i → (n : ℕ) → ComesIn (counted w) (accessOf w i) (runBy kept (stepping i n) (counted w))
+unfolding counted
+stepping-comes w s i h n =
+    leads-come (subst (Leads (stepping i n) (counted w)) (access-counted w i) (leads-stepping i h n (counted w))) kept (s .tape-in) (s .log-in)
+
+-- ---- a step
+
+pub fine-read : {top : ℕ} {i : Instr} {n : ℕ} → ScannedTo top Fine (known i n) → Fine i
+fine-read (read h) = h
+
+rows-come : {due : Use} {tape tapes log logs gap : ℕ} {v : World} {t : List Event} → Comes due tape tapes log logs gap {A = Unit {0}} (done tt v t) → (n : ℕ) → rowsOf n t ≡ rowsOfUse n due
+rows-come (goes i j g) = g
+
+-- THE RECORD OF A STEP is that of the access that its instruction makes
+pub step-rows : (w v : World) (t : List Event) → Holds w → (a : Stepped kept w v t) → (n : ℕ) → rowsOf n t ≡ rowsOfUse n (accessOf w (a .instr))
+step-rows w v t b a =
+    let f = fine-read (rw (a .read) at (reads-fine w (b .ram) (b .rom))) in
+    rows-come (rw (a .ran) at (stepping-comes w (passes w (a .fit) (a .good)) (a .instr) f (a .size)))
+
+-- ---- its numbers
 
 pub data AtMostOne : List Row → Type 0 where
   no-row : AtMostOne []
   one-row : {r : Row} → Sound rule r → AtMostOne (r ∷ [])
 
--- n steps were finished since the record before
-data Fair {A : Type 0} : Outcome A → Type 0 where
-  stopped : {n : ℕ} {t : List Event} → Fair (refused n t)
-  fair : {a : A} {v : World} {t : List Event} → ((n : ℕ) → AtMostOne (rowsOf (n + 1) t)) → Fair (done a v t)
+data InWidth : Use → Type 0 where
+  no-access : InWidth none
+  in-width : {out b : Bool} {port v : ℕ} → port ≤ 65535 → v ≤ topOf b → InWidth (access out b port v)
 
-fair-then : {A : Type 0} (e : Event) {o : Outcome A} → ((n : ℕ) (t : List Event) → rowsOf n (e ∷ t) ≡ rowsOf n t) → Fair o → Fair (then e o)
-fair-then e h stopped = stopped
-fair-then e h (fair {t = t} g) = fair λ n. subst AtMostOne (sym (h (n + 1) t)) (g n)
+byte-word : (n : ℕ) → n ≤ 255 → n ≤ 65535
+byte-word n h = omega arith
 
-silent-fair : {A : Type 0} {o : Outcome A} → Silent o → Fair o
-silent-fair (silent g) = fair λ n. subst AtMostOne (sym (g (n + 1))) no-row
+module _ (w : World) (h : Holds w) where
+  register-word : (n : ℕ) → reg w n ≤ 65535
+  register-word = file-words (w .state .file) (h .words)
 
--- an access, and nothing for the log behind it
-taken-fair : {A : Type 0} {o : Outcome A} (b : Bool) (port v : ℕ) → port ≤ 65535 → v ≤ topOf b → Silent o → Fair (then (takes b port v) o)
-unfolding rowsOf
-taken-fair b port v h g (silent {t = t} q) =
-    fair {t = takes b port v ∷ t} λ n. rw (q 0) (one-row (access-sound rule n port v false b (lit≤ tt) h g))
+  tape-width : (b : Bool) (port : ℕ) → port ≤ 65535 → InWidth (takenBy w b port)
+  tape-width b port l = in-width l (taped-top b (w .tape) (w .state .progress .tape) (h .tape))
 
-given-fair : {A : Type 0} {o : Outcome A} (b : Bool) (port v : ℕ) → port ≤ 65535 → v ≤ topOf b → Silent o → Fair (then (gives b port v) o)
-unfolding rowsOf
-given-fair b port v h g (silent {t = t} q) =
-    fair {t = gives b port v ∷ t} λ n. rw (q 0) (one-row (access-sound rule n port v true b (lit≤ tt) h g))
+  io-width : (i : Io) → Fine (Ports i) → InWidth (ofIo w i)
+  io-width (In b InDw) f = tape-width b (reg w DW) (register-word DW)
+  io-width (In b (Numbered n)) f = tape-width b n (byte-word n f)
+  io-width (Out b InDw) f = in-width (register-word DW) (register-top b (reg w) AW register-word)
+  io-width (Out b (Numbered n)) f = in-width (byte-word n f) (register-top b (reg w) AW register-word)
 
--- the number that went through
-data Carries (top : ℕ) : Access → Type 0 where
-  none-carried : {n : ℕ} → Carries top (short n)
-  carried : {v : ℕ} {w : World} → v ≤ top → Carries top (through v w)
+  primitive-width : (k : Primitive) (b : Bool) (seg : ℕ) → InWidth (ofPrimitive w k b seg)
+  primitive-width Movbk b seg = no-access
+  primitive-width Cmpbk b seg = no-access
+  primitive-width Cmpm b seg = no-access
+  primitive-width Ldm b seg = no-access
+  primitive-width Stm b seg = no-access
+  primitive-width Inm b seg = tape-width b (reg w DW) (register-word DW)
+  primitive-width Outm b seg = in-width (register-word DW) (memory-top b (w .ram) (w .rom) _ _ (h .ram) (h .rom))
 
-recording-carries : (top : ℕ) (w : World) (v m : ℕ) (b : List ℕ) → v ≤ top → Carries top (recording w v m b)
-unfolding recording
-recording-carries top w v m b h = picked (Carries top) (leb (w .state .progress .log + length b) (length (w .log))) (carried h) none-carried
+  access-width : (i : Instr) → Fine i → InWidth (accessOf w i)
+  access-width (Computes i) f = no-access
+  access-width (Moves i) f = no-access
+  access-width (Multiplies i) f = no-access
+  access-width (Interrupts i) f = no-access
+  access-width (Blocks k b seg q) f = picked InWidth (repeats q && eqb (reg w CW) 0) no-access (primitive-width k b seg)
+  access-width (Ports i) f = io-width i f
+  access-width (Controls i) f = no-access
 
-inputs-carry : (b : Bool) (n : ℕ) (w : World) → Holds w → Carries (topOf b) (inputs b n w)
-unfolding inputs
-inputs-carry b n w h =
-    picked (Carries (topOf b)) (leb (w .state .progress .tape + bytesOf b) (length (w .tape)))
-    (recording-carries (topOf b) w (taped b (w .tape) (w .state .progress .tape)) (bytesOf b) _ (taped-top b (w .tape) (w .state .progress .tape) (h .tape))) none-carried
-
-outputs-carry : (b : Bool) (n v : ℕ) (w : World) → v ≤ topOf b → Carries (topOf b) (outputs b n v w)
-unfolding outputs
-outputs-carry b n v w h = recording-carries (topOf b) w v 0 _ h
-
-ported-fair : {A : Type 0} {top : ℕ} {r : Access} (f : ℕ → World → Outcome A) → Carries top r → ((v : ℕ) (w : World) → v ≤ top → Fair (f v w)) → Fair (ported r f)
-ported-fair f none-carried g = stopped
-ported-fair f (carried {v = v} {w = w} h) g = g v w h
-
-one-fair : {A : Type 0} {p : Act A} → OnePort p → (u : ℕ → Choice) (w : World) → Holds w → Fair (runBy u p w)
-unfolding runBy rowsOf
-one-fair {p = p} (no-port q) u w b = silent-fair (quiet-silent p q u w)
-one-fair (o-get h) u w b = one-fair (h (fileOf (w .state .file)) (file-words (w .state .file) (b .words))) u w b
-one-fair (o-put {n = n} {v = v} l h) u w b =
-    one-fair h u (withState w (withFile (w .state) (written (w .state .file) n v))) (record { words = written-under (w .state .file) n v l (b .words); ram = b .ram; rom = b .rom; tape = b .tape })
-one-fair (o-ask {f = f} h) u w b = fair-then (asks f) (λ n t. refl) (one-fair (h (flagOf (pswOf (w .state)) f)) u w b)
-one-fair (o-load {b = c} {g = g} {o = o} h) u w b =
-    fair-then (reads c g o) (λ n t. refl) (one-fair (h (readMem c (w .ram) (w .rom) g o) (memory-top c (w .ram) (w .rom) g o (b .ram) (b .rom))) u w b)
-one-fair (o-input {b = c} {n = n} {k = k} l h) u w b =
-    ported-fair (λ v x. then (takes c n v) (runBy u (k v) x)) (inputs-carry c n w b) (λ v x m. taken-fair c n v l m (quiet-silent (k v) (h v) u x))
-one-fair (o-output {b = c} {n = n} {v = v} {p = p} l m q) u w b =
-    ported-fair (λ y x. then (gives c n v) (runBy u p x)) (outputs-carry c n v w m) (λ y x _. given-fair c n v l m (quiet-silent p q u x))
-
--- ---- a step
-
-fine-read : {i : Instr} {n : ℕ} → Scanned Fine (known i n) → Fine i
-fine-read (read h) = h
-
-fair-rows : {v : World} {t : List Event} → Fair {A = Unit {0}} (done tt v t) → (n : ℕ) → AtMostOne (rowsOf (n + 1) t)
-fair-rows (fair g) = g
+one-sound : (n : ℕ) (due : Use) → InWidth due → AtMostOne (rowsOfUse (n + 1) due)
+one-sound n none no-access = no-row
+one-sound n (access out b port v) (in-width h g) = one-row (access-sound rule n port v out b (lit≤ tt) h g)
 
 -- AT MOST ONE RECORD A STEP, of a gap from 1 up to the ceiling, and a key and a value in their widths
 pub step-row : (w v : World) (t : List Event) → lendable w ≡ true → step w ≡ done tt v t → (n : ℕ) → AtMostOne (rowsOf (n + 1) t)
-unfolding step counted
-step-row w v t l e =
+unfolding step
+step-row w v t l e n =
     let a = begins kept w v t e in
     let b = holds-lent w l in
     let f = fine-read (rw (a .read) at (reads-fine w (b .ram) (b .rom))) in
-    fair-rows (rw (a .ran) at (one-fair (one-stepping (a .instr) f (a .size)) kept (counted w) (record { words = b .words; ram = b .ram; rom = b .rom; tape = b .tape })))
+    rw (step-rows w v t b a (n + 1)) (one-sound n (accessOf w (a .instr)) (access-width w b (a .instr) f))

@@ -6,4 +6,6 @@ pub mod Runs
 pub mod RunsCode
 pub mod StandIns
 pub mod Rows
+pub mod Access
+pub mod Outcomes
 pub mod LogCode
