@@ -1,2 +1,3 @@
 pub mod QuotientReads
 pub mod QuotientLaws
+pub mod QuotientGiven

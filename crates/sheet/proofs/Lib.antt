@@ -11,3 +11,4 @@ pub mod Forms
 pub mod StepLaws
 pub mod MarkLaws
 pub mod BlockLaws
+pub mod Replay

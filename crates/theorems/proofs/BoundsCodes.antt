@@ -13,11 +13,11 @@ use Rattle.sheet.specs.declared.Places.{Places}
 use Rattle.sheet.specs.declared.Prefixes.{Prefixes}
 use Rattle.sheet.specs.declared.Instr.{Instr}
 use Rattle.sheet.specs.Reading.{Reading}
-use Rattle.sheet.specs.Encoding.{Prefix, unprefixed, withPrefix, regField, Row, toRegister}
+use Rattle.sheet.specs.Encoding.{Prefix, unprefixed, withPrefix, regField, Row, toRegister, lookUp}
 use Rattle.sheet.specs.SecondByte.{withPlain, bitInCl, bitGiven, fieldInRegister, fieldGiven, secondBytes}
 use Rattle.sheet.specs.FirstByte.{sixCodes, smallImmediate, withImmediate, withShift, shiftGroup, groupF6, groupFE, groupFF, fromSegment, toSegment, afterTen, withCounted, bytes00, bytes40, bytes80, bytesC0, firstBytes, afterPrefix, prefixed, instruction}
 use Rattle.portlog.proofs.Picked.{picked}
-use Rattle.theorems.proofs.BoundsReading.{Leaf, bind, into, either, Any, some-leaf, unknown-code, of-byte, of-word, any-byte, of-immediate, of-signedByte, of-allow, of-place, of-memory, of-plainPlace, Fine, ok, of-withPlace, of-withMemory, of-withAcc, of-withByte, of-withWord, of-withShort, of-withFar, Rows, of-lookUp, both, leaf, stop, none-more, _also_}
+use Rattle.theorems.proofs.BoundsReading.{LeafTo, Leaf, bind, also-fourth, into, either, Any, some-leaf, unknown-code, of-byte, of-word, any-byte, of-immediate, of-signedByte, of-allow, of-place, of-memory, of-plainPlace, Fine, ok, of-withPlace, of-withMemory, of-withAcc, of-withByte, of-withWord, of-withShort, of-withFar, Rows, of-lookUp, both, leaf, stop, none-more, _also_}
 
 -- ---- the codes after 0F
 
@@ -190,7 +190,7 @@ of-bytes80 p =
     also (λ n. leaf ok)
     also (λ n. leaf ok)
     also (λ n. leaf ok)
-    also (λ n. of-withByte _ λ v. ok)
+    also (λ n. of-withByte _ λ v h. ok)
     also (λ n. of-withWord _ λ v. ok)
     also none-more
 
@@ -207,7 +207,7 @@ of-bytesC0 p =
     also (λ n. of-withWord _ λ v. ok)
     also (λ n. leaf ok)
     also (λ n. leaf ok)
-    also (λ n. of-withByte _ λ v. ok)
+    also (λ n. of-withByte _ λ v h. ok)
     also (λ n. leaf ok)
     also (λ n. leaf ok)
     also of-shiftGroup p _ some-leaf
@@ -219,8 +219,8 @@ of-bytesC0 p =
     also (λ n. of-withShort _ λ v. ok)
     also (λ n. of-withShort _ λ v. ok)
     also (λ n. of-withShort _ λ v. ok)
-    also (λ n. of-withByte _ λ v. ok)
-    also (λ n. of-withByte _ λ v. ok)
+    also (λ n. of-withByte _ λ v h. h)
+    also (λ n. of-withByte _ λ v h. h)
     also (λ n. of-withWord _ λ v. ok)
     also (λ n. of-withWord _ λ v. ok)
     also (λ n. of-withFar _ λ ps pc. ok)
@@ -245,16 +245,20 @@ of-firstBytes p = both (of-bytes00 p) (both (of-bytes40 p) (both (of-bytes80 p) 
 
 -- ---- an instruction with its prefixes
 
-of-afterPrefix : (o : Option Prefix) (k : Prefix → Reading Instr) (other : Reading Instr) → ((q : Prefix) → Leaf Fine (k q)) → Leaf Fine other → Leaf Fine (afterPrefix o k other)
+of-afterPrefix : (o : Option Prefix) (k : Prefix → Reading Instr) (other : Reading Instr) → ((q : Prefix) → LeafTo 4 Fine (k q)) → LeafTo 4 Fine other → LeafTo 4 Fine (afterPrefix o k other)
 unfolding afterPrefix
 of-afterPrefix none k other h g = g
 of-afterPrefix (some q) k other h g = h q
 
-of-prefixed : (room : ℕ) (p : Prefixes) → Leaf Fine (prefixed room p)
-unfolding prefixed
-of-prefixed zero p = bind of-byte λ b _. of-afterPrefix _ _ _ (λ q. stop (lit≤ tt) (lit≤ tt)) (of-lookUp (firstBytes p) (of-firstBytes p) b)
-of-prefixed (suc room) p = bind of-byte λ b _. of-afterPrefix _ _ _ (λ q. of-prefixed room (withPrefix p q)) (of-lookUp (firstBytes p) (of-firstBytes p) b)
+-- the bytes behind the prefixes
+pub of-code : (p : Prefixes) (b : ℕ) → Leaf Fine (lookUp (firstBytes p) b)
+of-code p b = of-lookUp (firstBytes p) (of-firstBytes p) b
 
-pub of-instruction : Leaf Fine instruction
+of-prefixed : (room : ℕ) (p : Prefixes) → LeafTo 4 Fine (prefixed room p)
+unfolding prefixed
+of-prefixed zero p = bind of-byte λ b _. of-afterPrefix _ _ _ (λ q. stop (lit≤ tt) (lit≤ tt)) (also-fourth _ (of-code p b))
+of-prefixed (suc room) p = bind of-byte λ b _. of-afterPrefix _ _ _ (λ q. of-prefixed room (withPrefix p q)) (also-fourth _ (of-code p b))
+
+pub of-instruction : LeafTo 4 Fine instruction
 unfolding instruction
 of-instruction = of-prefixed 3 unprefixed

@@ -34,7 +34,8 @@ use Rattle.sheet.specs.Interrupts.{brk, trapIf, brkv, reti, chkind, interrupts}
 use Rattle.sheet.specs.Block.{stepIndex, sourceElement, targetElement, setTarget, primitive, goesOn, goesOnAfter, afterElement, element, repeated, block}
 use Rattle.sheet.specs.Ports.{portNumber, ports}
 use Rattle.sheet.specs.Control.{control}
-use Rattle.theorems.proofs.BoundsRules.{Most, seq, up, either-way, of-pure, of-registers, of-set, of-flag, of-flags, of-halted, of-peek, of-poke, of-inp, of-out, of-loop}
+use Rattle.theorems.specs.Repeat.{ofMemory}
+use Rattle.theorems.proofs.BoundsRules.{MostOf, Most, seq, any, up, either-way, of-pure, of-registers, of-set, of-flag, of-flags, of-halted, of-peek, of-poke, of-inp, of-out, of-loop}
 use Rattle.theorems.proofs.BoundsOperands.{of-regValue, of-setReg, of-locate, of-deposit, of-valueAt, of-pairAt, of-push, of-pop, of-popInto, of-pushPsw, of-pushPsPc, of-jumpFar, of-trap}
 
 -- ---- the stack
@@ -210,11 +211,11 @@ of-interrupts (Chkind reg from) = seq (of-pairAt from) λ p. seq (of-regValue _ 
 
 -- ---- block primitives
 
-of-stepIndex : (w : Bool) (n : ℕ) → Most Unit (stepIndex w n) 0
+pub of-stepIndex : (w : Bool) (n : ℕ) → Most Unit (stepIndex w n) 0
 unfolding stepIndex
 of-stepIndex w n = seq of-flag λ down. seq of-registers λ r. of-set
 
-of-sourceElement : (w : Bool) (seg : ℕ) → Most ℕ (sourceElement w seg) 2
+pub of-sourceElement : (w : Bool) (seg : ℕ) → Most ℕ (sourceElement w seg) 2
 unfolding sourceElement
 of-sourceElement w seg = seq of-registers λ r. of-peek
 
@@ -222,19 +223,19 @@ of-targetElement : (w : Bool) → Most ℕ (targetElement w) 2
 unfolding targetElement
 of-targetElement w = seq of-registers λ r. of-peek
 
-of-setTarget : (w : Bool) (v : ℕ) → Most Unit (setTarget w v) 2
+pub of-setTarget : (w : Bool) (v : ℕ) → Most Unit (setTarget w v) 2
 unfolding setTarget
 of-setTarget w v = seq of-registers λ r. of-poke
 
-of-primitive : (k : Primitive) (w : Bool) (seg : ℕ) → Most Unit (primitive k w seg) 4
+pub of-primitive : (k : Primitive) (w : Bool) (seg : ℕ) → MostOf (ofMemory k) Unit (primitive k w seg) 4
 unfolding primitive
 of-primitive Movbk w seg = seq (of-sourceElement w seg) λ v. seq (of-setTarget w v) λ _. seq (of-stepIndex w _) λ _. of-stepIndex w _
 of-primitive Cmpbk w seg = seq (of-sourceElement w seg) λ a. seq (of-targetElement w) λ b. seq of-flags λ _. seq (of-stepIndex w _) λ _. of-stepIndex w _
 of-primitive Cmpm w seg = up (lit≤ tt) (seq (of-regValue _ _) λ a. seq (of-targetElement w) λ b. seq of-flags λ _. of-stepIndex w _)
 of-primitive Ldm w seg = up (lit≤ tt) (seq (of-sourceElement w seg) λ v. seq (of-setReg _ _ _) λ _. of-stepIndex w _)
 of-primitive Stm w seg = up (lit≤ tt) (seq (of-regValue _ _) λ v. seq (of-setTarget w v) λ _. of-stepIndex w _)
-of-primitive Inm w seg = seq of-registers λ r. seq of-inp λ v. seq (of-setTarget w v) λ _. of-stepIndex w _
-of-primitive Outm w seg = seq (of-sourceElement w seg) λ v. seq of-registers λ r. seq of-out λ _. of-stepIndex w _
+of-primitive Inm w seg = seq (any of-registers) λ r. seq of-inp λ v. any (seq (of-setTarget w v) λ _. of-stepIndex w _)
+of-primitive Outm w seg = seq (any (of-sourceElement w seg)) λ v. seq (any of-registers) λ r. seq of-out λ _. any (of-stepIndex w _)
 
 of-goesOn : (q : Repeat) → Most Bool (goesOn q) 0
 unfolding goesOn
@@ -254,16 +255,16 @@ of-goesOnAfter Stm q = of-pure
 of-goesOnAfter Inm q = of-pure
 of-goesOnAfter Outm q = of-pure
 
-of-afterElement : (k : Primitive) (q : Repeat) (start : ℕ) → Most Unit (afterElement k q start) 0
+pub of-afterElement : (k : Primitive) (q : Repeat) (start : ℕ) → Most Unit (afterElement k q start) 0
 unfolding afterElement
 of-afterElement k q start = seq of-countDown λ left. seq (of-goesOnAfter k q) λ on. either-way (on && left) of-set of-pure
 
-of-repeated : (k : Primitive) (w : Bool) (seg : ℕ) (q : Repeat) (start : ℕ) → Most Unit (repeated k w seg q start) 4
+of-repeated : (k : Primitive) (w : Bool) (seg : ℕ) (q : Repeat) (start : ℕ) → MostOf (ofMemory k) Unit (repeated k w seg q start) 4
 unfolding repeated element
 of-repeated k w seg q start =
-    seq of-registers λ r. either-way (eqb (r CW) 0) (up (lit≤ tt) of-pure) (seq (of-primitive k w seg) λ _. of-afterElement k q start)
+    seq (any of-registers) λ r. either-way (eqb (r CW) 0) (any (up (lit≤ tt) of-pure)) (seq (of-primitive k w seg) λ _. any (of-afterElement k q start))
 
-pub of-block : (k : Primitive) (w : Bool) (seg : ℕ) (q : Repeat) (start : ℕ) → Most Unit (block k w seg q start) 4
+pub of-block : (k : Primitive) (w : Bool) (seg : ℕ) (q : Repeat) (start : ℕ) → MostOf (ofMemory k) Unit (block k w seg q start) 4
 unfolding block
 of-block k w seg Once start = of-primitive k w seg
 of-block k w seg WhileZ start = of-repeated k w seg WhileZ start
@@ -278,10 +279,10 @@ unfolding portNumber
 of-portNumber InDw = seq of-registers λ r. of-pure
 of-portNumber (Numbered n) = of-pure
 
-pub of-ports : (i : Io) → Most Unit (ports i) 2
+pub of-ports : (i : Io) → MostOf false Unit (ports i) 2
 unfolding ports
-of-ports (In w port) = seq (of-portNumber port) λ n. seq of-inp λ v. of-setReg _ _ _
-of-ports (Out w port) = seq (of-portNumber port) λ n. seq (of-regValue _ _) λ v. of-out
+of-ports (In w port) = seq (any (of-portNumber port)) λ n. seq of-inp λ v. any (of-setReg _ _ _)
+of-ports (Out w port) = seq (any (of-portNumber port)) λ n. seq (any (of-regValue _ _)) λ v. of-out
 
 pub of-control : (i : Control) → Most Unit (control i) 0
 unfolding control

@@ -47,7 +47,7 @@ use Rattle.sheet.specs.Decimal.{adj4, adjb, link, chained, string, rol4, ror4}
 use Rattle.sheet.specs.Fields.{lengthOf, advance, insertInto, firstPart, secondPart, ins, window, ext}
 use Rattle.sheet.specs.Traps.{untrapped}
 use Rattle.sheet.specs.Execute.{calculate, multiply, convert, decimal, field}
-use Rattle.theorems.proofs.BoundsRules.{Most, seq, up, either-way, of-pure, of-get, of-registers, of-set, of-flag, of-psw, of-flags, of-peek, of-poke, of-peek-byte, of-poke-byte, of-loop}
+use Rattle.theorems.proofs.BoundsRules.{MostOf, Most, seq, any, up, either-way, of-pure, of-get, of-registers, of-set, of-flag, of-psw, of-flags, of-peek, of-poke, of-peek-byte, of-poke-byte, of-loop}
 use Rattle.theorems.proofs.BoundsOperands.{of-regValue, of-setReg, of-locate, of-fetch, of-deposit, of-valueAt, of-sourceValue, of-pairAt, of-amountOf, of-trap}
 
 -- ---- transfers
@@ -103,9 +103,9 @@ of-calculate (Test w left right) = up (lit≤ tt) (seq (of-valueAt w left) λ a.
 
 -- ---- products and quotients
 
-pub of-untrapped : {p : Act Unit} {n : ℕ} → Most Unit p n → Most Bool (untrapped p) (n + 0)
+pub of-untrapped : {s : Bool} {p : Act Unit} {n : ℕ} → MostOf s Unit p n → MostOf s Bool (untrapped p) (n + 0)
 unfolding untrapped
-of-untrapped h = seq h λ _. of-pure
+of-untrapped h = seq h λ _. any of-pure
 
 of-setProduct : (w : Bool) (x : ℕ) → Most Unit (setProduct w x) 0
 unfolding setProduct

@@ -1,7 +1,8 @@
--- What bytes can name, by the rules of reading: PREPARE's level is at most 255, and a refusal is 3 or 4.
+-- What bytes can name, by the rules of reading: PREPARE's level and a port's number are at most 255, and a refusal is 3 or 4.
 use Prim.Native.Nat.{ℕ, _+_, _-_, _≤_}
 use mathlib.Core.Bool.{Bool, _&&_}
 use mathlib.Core.List.{List, [], _∷_, _++_}
+use native.Mathlib.Omega.{arith}
 use lib.Dec.{eqb, lit≤}
 use Rattle.sheet.specs.declared.Address.{Address}
 use Rattle.sheet.specs.declared.Place.{Place}
@@ -9,6 +10,10 @@ use Rattle.sheet.specs.declared.Source.{Source}
 use Rattle.sheet.specs.declared.Source.the-variants.{Immediate}
 use Rattle.sheet.specs.declared.Prefixes.{Prefixes}
 use Rattle.sheet.specs.declared.Instr.{Instr}
+use Rattle.sheet.specs.declared.Port.{Port}
+use Rattle.sheet.specs.declared.Port.the-variants.{InDw, Numbered}
+use Rattle.sheet.specs.declared.Io.{Io}
+use Rattle.sheet.specs.declared.Io.the-variants.{In, Out}
 use Rattle.sheet.specs.declared.Move.{Move}
 use Rattle.sheet.specs.declared.Move.the-variants.{Transfers, Stacks, Branches, Tests}
 use Rattle.sheet.specs.declared.Instr.the-variants.{Computes, Moves, Multiplies, Interrupts, Blocks, Ports, Controls}
@@ -20,17 +25,20 @@ use Rattle.sheet.specs.FirstByte.{withPlace, withMemory, withAcc, withByte, wit
 use Rattle.portlog.proofs.Picked.{picked}
 use Rattle.theorems.proofs.BoundsFlow.{levelOf}
 
--- Q holds of all that a reading of bytes up to 255 comes to, and its refusals are 3 and 4
-pub data Leaf {A : Type 0} (Q : A → Type 0) : Reading A → Type 0 where
-  leaf : {a : A} → Q a → Leaf Q (got a)
-  then-byte : {k : ℕ → Reading A} → ((b : ℕ) → b ≤ 255 → Leaf Q (k b)) → Leaf Q (need k)
-  stop : {n : ℕ} → 3 ≤ n → n ≤ 4 → Leaf Q (no n)
+-- Q holds of all that a reading of bytes up to 255 comes to, and its refusals are from 3 up to a top: 4 with prefixes, 3 without
+pub data LeafTo (top : ℕ) {A : Type 0} (Q : A → Type 0) : Reading A → Type 0 where
+  leaf : {a : A} → Q a → LeafTo top Q (got a)
+  then-byte : {k : ℕ → Reading A} → ((b : ℕ) → b ≤ 255 → LeafTo top Q (k b)) → LeafTo top Q (need k)
+  stop : {n : ℕ} → 3 ≤ n → n ≤ top → LeafTo top Q (no n)
 
-pub data Scanned {A : Type 0} (Q : A → Type 0) : Read A → Type 0 where
-  read : {a : A} {n : ℕ} → Q a → Scanned Q (known a n)
-  unread : {r n : ℕ} → 3 ≤ r → r ≤ 4 → Scanned Q (unknown r n)
+abbrev pub Leaf : {A : Type 0} → (A → Type 0) → Reading A → Type 0
+Leaf Q p = LeafTo 3 Q p
 
-pub scanned : {A : Type 0} {Q : A → Type 0} (p : Reading A) → Leaf Q p → (src : ℕ → ℕ) → ((j : ℕ) → src j ≤ 255) → (i : ℕ) → Scanned Q (scan p src i)
+pub data ScannedTo (top : ℕ) {A : Type 0} (Q : A → Type 0) : Read A → Type 0 where
+  read : {a : A} {n : ℕ} → Q a → ScannedTo top Q (known a n)
+  unread : {r n : ℕ} → 3 ≤ r → r ≤ top → ScannedTo top Q (unknown r n)
+
+pub scanned : {top : ℕ} {A : Type 0} {Q : A → Type 0} (p : Reading A) → LeafTo top Q p → (src : ℕ → ℕ) → ((j : ℕ) → src j ≤ 255) → (i : ℕ) → ScannedTo top Q (scan p src i)
 unfolding scan
 scanned (got a) (leaf q) src h i = read q
 scanned (need k) (then-byte f) src h i = scanned (k (src i)) (f (src i) (h i)) src h (i + 1)
@@ -38,7 +46,8 @@ scanned (no n) (stop f g) src h i = unread f g
 
 -- ---- joining
 
-pub bind : {A B : Type 0} {P : A → Type 0} {Q : B → Type 0} {p : Reading A} {f : A → Reading B} → Leaf P p → ((a : A) → P a → Leaf Q (f a)) → Leaf Q (p >>= f)
+pub bind : {top : ℕ} {A B : Type 0} {P : A → Type 0} {Q : B → Type 0} {p : Reading A} {f : A → Reading B} → LeafTo top P p → ((a : A) → P a → LeafTo top Q (f a))
+    → LeafTo top Q (p >>= f)
 unfolding _>>=_
 bind {p = got a} (leaf q) g = g a q
 bind {p = need k} (then-byte h) g = then-byte λ b l. bind (h b l) g
@@ -46,6 +55,12 @@ bind {p = no n} (stop x y) g = stop x y
 
 pub either : {A : Type 0} {Q : A → Type 0} {p q : Reading A} (c : Bool) → Leaf Q p → Leaf Q q → Leaf Q (pick c p q)
 either {A} {Q} = picked (λ (r : Reading A). Leaf Q r)
+
+-- refusals up to 3 are refusals up to 4
+pub also-fourth : {A : Type 0} {Q : A → Type 0} (p : Reading A) → Leaf Q p → LeafTo 4 Q p
+also-fourth (got a) (leaf q) = leaf q
+also-fourth (need k) (then-byte h) = then-byte λ b l. also-fourth (k b) (h b l)
+also-fourth (no n) (stop x y) = let z : n ≤ 4 = omega arith in stop x z
 
 -- nothing is asked of it
 abbrev pub Any : {A : Type 0} → A → Type 0
@@ -59,7 +74,7 @@ unknown-code = stop (lit≤ tt) (lit≤ tt)
 
 -- ---- numbers and places
 
-pub of-byte : Leaf (λ b. b ≤ 255) byte
+pub of-byte : {top : ℕ} → LeafTo top (λ b. b ≤ 255) byte
 of-byte = then-byte λ b h. leaf h
 
 pub of-word : Leaf Any word
@@ -110,19 +125,29 @@ levelAmong (Stacks i) = levelOf i
 levelAmong (Branches i) = 0
 levelAmong (Tests i) = 0
 
-abbrev pub levelIn : Instr → ℕ
-levelIn (Computes i) = 0
-levelIn (Moves i) = levelAmong i
-levelIn (Multiplies i) = 0
-levelIn (Interrupts i) = 0
-levelIn (Blocks k w seg q) = 0
-levelIn (Ports i) = 0
-levelIn (Controls i) = 0
+-- a port's number, where the instruction gives it
+abbrev numberIn : Port → ℕ
+numberIn InDw = 0
+numberIn (Numbered n) = n
+
+abbrev pub portIn : Io → ℕ
+portIn (In w port) = numberIn port
+portIn (Out w port) = numberIn port
+
+-- the level or the port; others have none
+abbrev pub byteIn : Instr → ℕ
+byteIn (Computes i) = 0
+byteIn (Moves i) = levelAmong i
+byteIn (Multiplies i) = 0
+byteIn (Interrupts i) = 0
+byteIn (Blocks k w seg q) = 0
+byteIn (Ports i) = portIn i
+byteIn (Controls i) = 0
 
 abbrev pub Fine : Instr → Type 0
-Fine i = levelIn i ≤ 255
+Fine i = byteIn i ≤ 255
 
--- an instruction without a level
+-- an instruction with neither
 pub ok : 0 ≤ 255
 ok = lit≤ tt
 
@@ -142,9 +167,9 @@ pub of-withAcc : (k : Source → Instr) (w : Bool) → ((v : Source) → Fine (k
 unfolding withAcc
 of-withAcc k w h = into _ (of-immediate w) λ v. h (Immediate v)
 
-pub of-withByte : (k : ℕ → Instr) → ((v : ℕ) → Fine (k v)) → Leaf Fine (withByte k)
+pub of-withByte : (k : ℕ → Instr) → ((v : ℕ) → v ≤ 255 → Fine (k v)) → Leaf Fine (withByte k)
 unfolding withByte
-of-withByte k h = into k of-byte h
+of-withByte k h = bind of-byte λ v l. leaf (h v l)
 
 pub of-withWord : (k : ℕ → Instr) → ((v : ℕ) → Fine (k v)) → Leaf Fine (withWord k)
 unfolding withWord

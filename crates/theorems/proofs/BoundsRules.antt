@@ -1,7 +1,7 @@
--- A bound on the bus cycles of a tree from any world, with the refusals that it may come to: one rule for each node and each way of joining trees.
+-- A bound on the bus cycles of a tree from any world, with the refusals that it may come to, and whether it may use a port: one rule for each node and each way of joining trees.
 use Prim.Native.Nat.{ℕ, zero, suc, _+_, _*_, _%_, _≤_}
-use mathlib.Core.Path.{_≡_, refl}
-use mathlib.Core.Bool.{Bool, true, false}
+use mathlib.Core.Path.{_≡_, refl, sym}
+use mathlib.Core.Bool.{Bool, true, false, true≢false}
 use mathlib.Core.List.{List, [], _∷_}
 use native.Mathlib.Nat.{le-refl, le-of-eq, zero-mul, suc-mul, add-comm}
 use native.Mathlib.Omega.{arith}
@@ -18,15 +18,20 @@ use Rattle.sheet.specs.Handler.{Event, Access, short, through, recording, input
 use Rattle.sheet.specs.Contract.{Seen, stops, ends, seen, exec, Ends}
 use Rattle.sheet.proofs.Rules.{plus, andThen, exec-bind, ends-pure, ends-registers, ends-set, ends-flag, ends-psw, ends-flags, ends-halted}
 use Rattle.portlog.proofs.Picked.{picked}
+use Rattle.theorems.proofs.Quiet.{Quiet, q-pure, q-get, q-put, q-ask, q-copy, q-flags, q-load, q-store, q-halt, quiet-seq}
 
 -- an end in at most n cycles, or one of the refusals that a port access gives, 5 and 6
 pub data Within {A : Type 0} (n : ℕ) : Seen A → Type 0 where
   within : {a : A} {w : World} {m : Bus} → m .cycles ≤ n → Within n (ends a w m)
   short-of : {k : ℕ} → 5 ≤ k → k ≤ 6 → Within n (stops k)
 
--- so from every world
-pub record Most (A : Type 0) (p : Act A) (n : ℕ) : Type 0 where
+-- so from every world; where it is silent, it uses no port
+pub record MostOf (silent : Bool) (A : Type 0) (p : Act A) (n : ℕ) : Type 0 where
   pub at : (w : World) → Within n (exec p w)
+  pub quiet : silent ≡ true → Quiet p
+
+abbrev pub Most : (A : Type 0) → Act A → ℕ → Type 0
+Most A p n = MostOf true A p n
 
 -- ---- joining
 
@@ -39,53 +44,60 @@ andThen-within a b (ends x v n) f (within h) g = plus-within n a b (f x v) h (g 
 andThen-within a b (stops k) f (short-of h i) g = short-of h i
 
 -- one tree after another: the bounds add up
-pub seq : {A B : Type 0} {p : Act A} {f : A → Act B} {a b : ℕ} → Most A p a → ((x : A) → Most B (f x) b) → Most B (p >>= f) (a + b)
+pub seq : {s : Bool} {A B : Type 0} {p : Act A} {f : A → Act B} {a b : ℕ} → MostOf s A p a → ((x : A) → MostOf s B (f x) b) → MostOf s B (p >>= f) (a + b)
 seq {p = p} {f = f} {a = a} {b = b} h g =
-    record { at = λ w. rw (exec-bind p f w) (andThen-within a b (exec p w) (λ x v. exec (f x) v) (h .at w) (λ x v. g x .at v)) }
+    record {
+      at = λ w. rw (exec-bind p f w) (andThen-within a b (exec p w) (λ x v. exec (f x) v) (h .at w) (λ x v. g x .at v));
+      quiet = λ e. quiet-seq (h .quiet e) (λ x. g x .quiet e);
+    }
+
+-- what uses no port, among what may use one
+pub any : {s : Bool} {A : Type 0} {p : Act A} {n : ℕ} → Most A p n → MostOf s A p n
+any m = record { at = m .at; quiet = λ e. m .quiet refl }
 
 wider : {A : Type 0} (a b : ℕ) (e : Seen A) → a ≤ b → Within a e → Within b e
 wider a b (ends x w n) h (within g) = let q : n .cycles ≤ b = omega arith in within q
 wider a b (stops k) h (short-of f g) = short-of f g
 
 -- a bound is also any higher one
-pub up : {A : Type 0} {p : Act A} {a b : ℕ} → a ≤ b → Most A p a → Most A p b
-up {p = p} {a = a} {b = b} h m = record { at = λ w. wider a b (exec p w) h (m .at w) }
+pub up : {s : Bool} {A : Type 0} {p : Act A} {a b : ℕ} → a ≤ b → MostOf s A p a → MostOf s A p b
+up {p = p} {a = a} {b = b} h m = record { at = λ w. wider a b (exec p w) h (m .at w); quiet = m .quiet }
 
 -- whichever of two trees is chosen
-pub either-way : {A : Type 0} {p q : Act A} {n : ℕ} (c : Bool) → Most A p n → Most A q n → Most A (pick c p q) n
-either-way {A} {n = n} = picked (λ (r : Act A). Most A r n)
+pub either-way : {s : Bool} {A : Type 0} {p q : Act A} {n : ℕ} (c : Bool) → MostOf s A p n → MostOf s A q n → MostOf s A (pick c p q) n
+either-way {s} {A} {n = n} = picked (λ (r : Act A). MostOf s A r n)
 
 -- ---- nodes
 
 -- a tree that makes no access
-free : {A : Type 0} {p : Act A} {a : World → A} {v : World → World} → ((w : World) → Ends A p w (a w) (v w) nothing) → Most A p 0
-free h = record { at = λ w. rw (h w .is) (within (le-refl 0)) }
+free : {A : Type 0} {p : Act A} {a : World → A} {v : World → World} → Quiet p → ((w : World) → Ends A p w (a w) (v w) nothing) → Most A p 0
+free q h = record { at = λ w. rw (h w .is) (within (le-refl 0)); quiet = λ e. q }
 
 pub of-pure : {A : Type 0} {a : A} → Most A (pure a) 0
-of-pure = free (λ w. ends-pure)
+of-pure = free q-pure (λ w. ends-pure)
 
 pub of-registers : Most File registers 0
-of-registers = free (λ w. ends-registers)
+of-registers = free (q-get λ r. q-pure) (λ w. ends-registers)
 
 -- what follows may rest on what the registers hold
-pub of-get : {A : Type 0} {k : File → Act A} {n : ℕ} → ((r : File) → Most A (k r) n) → Most A (get k) n
+pub of-get : {s : Bool} {A : Type 0} {k : File → Act A} {n : ℕ} → ((r : File) → MostOf s A (k r) n) → MostOf s A (get k) n
 unfolding exec run runBy
-of-get h = record { at = λ w. h (fileOf (w .state .file)) .at w }
+of-get h = record { at = λ w. h (fileOf (w .state .file)) .at w; quiet = λ e. q-get λ r. h r .quiet e }
 
 pub of-set : {n v : ℕ} → Most Unit (n ≔ v) 0
-of-set {n} {v} = free (λ w. ends-set n v)
+of-set {n} {v} = free (q-put q-pure) (λ w. ends-set n v)
 
 pub of-flag : {f : Flag} → Most Bool (flag f) 0
-of-flag {f} = free (λ w. ends-flag f)
+of-flag {f} = free (q-ask λ b. q-pure) (λ w. ends-flag f)
 
 pub of-psw : {b : Bool} → Most ℕ (psw b) 0
-of-psw {b} = free (λ w. ends-psw b)
+of-psw {b} = free (q-copy λ x. q-pure) (λ w. ends-psw b)
 
 pub of-flags : {c : Flag → Effect} → Most Unit (flags c (pure tt)) 0
-of-flags {c} = free (λ w. ends-flags c refl)
+of-flags {c} = free (q-flags q-pure) (λ w. ends-flags c refl)
 
 pub of-halted : {b : Bool} → Most Unit (halted b) 0
-of-halted {b} = free (λ w. ends-halted b)
+of-halted {b} = free (q-halt q-pure) (λ w. ends-halted b)
 
 -- an access takes at most 2 cycles, one of a byte or at an even address 1
 pub cycles-top : (b : Bool) (o : ℕ) → busCycles b o + 0 ≤ 2
@@ -104,11 +116,11 @@ even-cycles o e = omega arith
 module _ {b : Bool} {g o n : ℕ} (h : busCycles b o + 0 ≤ n) where
   peeks : Most ℕ (peek b g o) n
   unfolding exec run runBy tally
-  peeks = record { at = λ w. within h }
+  peeks = record { at = λ w. within h; quiet = λ e. q-load λ v. q-pure }
 
   pokes : {v : ℕ} → Most Unit (poke b g o v) n
   unfolding exec run runBy tally
-  pokes = record { at = λ w. within h }
+  pokes = record { at = λ w. within h; quiet = λ e. q-store q-pure }
 
 pub of-peek : {b : Bool} {g o : ℕ} → Most ℕ (peek b g o) 2
 of-peek {b} {g} {o} = peeks (cycles-top b o)
@@ -155,13 +167,13 @@ ported-within : {A : Type 0} {m : ℕ} (e : ℕ → Event) (a : ℕ → A) → (
 ported-within e a h (through v w) passes = within (h v)
 ported-within e a h (short k) (fails f g) = short-of f g
 
-pub of-inp : {b : Bool} {n : ℕ} → Most ℕ (inp b n) 2
+pub of-inp : {b : Bool} {n : ℕ} → MostOf false ℕ (inp b n) 2
 unfolding exec run runBy tally
-of-inp {b} {n} = record { at = λ w. ported-within (takes b n) (λ v. v) (λ v. cycles-top b n) (inputs b n w) (inputs-passes b n w) }
+of-inp {b} {n} = record { at = λ w. ported-within (takes b n) (λ v. v) (λ v. cycles-top b n) (inputs b n w) (inputs-passes b n w); quiet = λ e. absurd (true≢false (sym e)) }
 
-pub of-out : {b : Bool} {n v : ℕ} → Most Unit (out b n v) 2
+pub of-out : {b : Bool} {n v : ℕ} → MostOf false Unit (out b n v) 2
 unfolding exec run runBy tally
-of-out {b} {n} {v} = record { at = λ w. ported-within (λ x. gives b n v) (λ x. tt) (λ x. cycles-top b n) (outputs b n v w) (outputs-passes b n v w) }
+of-out {b} {n} {v} = record { at = λ w. ported-within (λ x. gives b n v) (λ x. tt) (λ x. cycles-top b n) (outputs b n v w) (outputs-passes b n v w); quiet = λ e. absurd (true≢false (sym e)) }
 
 -- ---- repeats
 

@@ -1,11 +1,10 @@
 -- No step makes more than 1,028 bus cycles and no interrupt call more than 8; and the numbers that a refusal can have.
-use Prim.Native.Nat.{ℕ, _+_, _-_, _≤_}
+use Prim.Native.Nat.{ℕ, _+_, _≤_}
 use mathlib.Core.Path.{_≡_, refl, _∙_}
 use mathlib.Core.Bool.{Bool, true, false, not, _&&_, true≢false}
 use mathlib.Core.List.{List, _∷_}
-use lib.ListN.{length}
 use native.Mathlib.Omega.{arith}
-use lib.Dec.{eqb, leb, ltb, lit≤}
+use lib.Dec.{eqb, lit≤}
 use borrow.Author.Tests.{eqb-true, eqb-false}
 use Rattle.sheet.specs.declared.Bus.{Bus}
 use Rattle.sheet.specs.declared.Instr.{Instr}
@@ -17,7 +16,6 @@ use Rattle.sheet.specs.declared.Instr.the-variants.{Computes, Moves, Multiplies
 use Rattle.sheet.specs.Width.{pick}
 use Rattle.sheet.specs.Psw.{IE, flagOf}
 use Rattle.sheet.specs.Registers.{PS, PC, fileOf}
-use Rattle.sheet.specs.Memory.{byteAt}
 use Rattle.sheet.specs.World.{World, pswOf}
 use Rattle.sheet.specs.Handler.{Event, Outcome, done, kept, run, runBy, tally}
 use Rattle.sheet.specs.Contract.{Seen, stops, ends, seen, exec}
@@ -27,15 +25,17 @@ use Rattle.sheet.specs.Execute.{computing, moving, operation, execute}
 use Rattle.sheet.specs.Step.{fits, sound, checked, refusal, codeAt, source, interrupting, singleStep, starting, stepping, decoded, awake, stepBy, step, interruptBy, interrupt}
 use Rattle.sheet.specs.Act.{_>>=_}
 use Rattle.sheet.specs.Traps.{push, pushPsw, pushPsPc, jumpFar, save, trap}
+use Rattle.theorems.specs.Repeat.{ofMemory}
 use Rattle.theorems.specs.Bounds.{Bytes, stepTop, interruptTop, stepRefusals, interruptRefusals, Among, first, later, Comes, ends-in, stops-by}
 use Rattle.portlog.proofs.Picked.{picked}
 use Rattle.engine.proofs.Laws.{awake-known}
 use Rattle.engine.proofs.RunLaws.{step-on}
-use Rattle.theorems.proofs.BoundsRules.{Within, within, short-of, Most, seq, up, of-pure, of-registers, of-set, of-flag, of-halted}
+use Rattle.theorems.proofs.Widths.{byte-top}
+use Rattle.theorems.proofs.BoundsRules.{Within, within, short-of, MostOf, Most, seq, any, up, of-pure, of-registers, of-set, of-flag, of-halted}
 use Rattle.theorems.proofs.BoundsOperands.{of-trap}
 use Rattle.theorems.proofs.BoundsGroups.{of-transfer, of-calculate, of-untrapped, of-multiply, of-convert, of-shift, of-bits, of-decimal, of-field}
 use Rattle.theorems.proofs.BoundsFlow.{of-stack, of-branch, of-conditional, of-interrupts, of-block, of-ports, of-control}
-use Rattle.theorems.proofs.BoundsReading.{levelAmong, Fine, Scanned, read, unread, scanned}
+use Rattle.theorems.proofs.BoundsReading.{levelAmong, Fine, ScannedTo, read, unread, scanned}
 use Rattle.theorems.proofs.BoundsCodes.{of-instruction}
 
 -- ---- an instruction
@@ -56,7 +56,17 @@ of-moving (Stacks i) h = of-stack i h
 of-moving (Branches i) h = up (lit≤ tt) (of-branch i)
 of-moving (Tests i) h = up (lit≤ tt) (of-conditional i)
 
-of-operation : (i : Instr) → Fine i → (start : ℕ) → Most Bool (operation i start) 1020
+-- it uses no port
+abbrev pub portless : Instr → Bool
+portless (Computes i) = true
+portless (Moves i) = true
+portless (Multiplies i) = true
+portless (Interrupts i) = true
+portless (Blocks k w seg q) = ofMemory k
+portless (Ports i) = false
+portless (Controls i) = true
+
+pub of-operation : (i : Instr) → Fine i → (start : ℕ) → MostOf (portless i) Bool (operation i start) 1020
 unfolding operation
 of-operation (Computes i) h start = of-untrapped (of-computing i)
 of-operation (Moves i) h start = of-untrapped (of-moving i h)
@@ -66,30 +76,26 @@ of-operation (Blocks k w seg q) h start = up (lit≤ tt) (of-untrapped (of-block
 of-operation (Ports i) h start = up (lit≤ tt) (of-untrapped (of-ports i))
 of-operation (Controls i) h start = up (lit≤ tt) (of-untrapped (of-control i))
 
-of-execute : (i : Instr) → Fine i → (n : ℕ) → Most Bool (execute i n) 1020
+of-execute : (i : Instr) → Fine i → (n : ℕ) → MostOf (portless i) Bool (execute i n) 1020
 unfolding execute
-of-execute i h n = seq of-registers λ r. seq of-set λ _. of-operation i h _
+of-execute i h n = seq (any of-registers) λ r. seq (any of-set) λ _. of-operation i h _
 
-of-interrupting : (v : ℕ) → Most Unit (interrupting v) interruptTop
+pub of-interrupting : (v : ℕ) → Most Unit (interrupting v) interruptTop
 unfolding interrupting
 of-interrupting v = seq (of-trap v) λ _. of-halted
 
-of-singleStep : (b : Bool) → Most Unit (singleStep b) 8
+pub of-singleStep : (b : Bool) → Most Unit (singleStep b) 8
 unfolding singleStep
 of-singleStep false = up (lit≤ tt) of-pure
 of-singleStep true = of-interrupting 1
 
-of-stepping : (i : Instr) → Fine i → (n : ℕ) → Most Unit (stepping i n) stepTop
+pub of-stepping : (i : Instr) → Fine i → (n : ℕ) → MostOf (portless i) Unit (stepping i n) stepTop
 unfolding stepping
-of-stepping i h n = seq of-flag λ traced. seq (of-execute i h n) λ trapped. of-singleStep _
+of-stepping i h n = seq (any of-flag) λ traced. seq (of-execute i h n) λ trapped. any (of-singleStep _)
 
 -- ---- the bytes of the instruction
 
-byte-top : (ram rom : List ℕ) → Bytes ram → Bytes rom → (a : ℕ) → byteAt ram rom a ≤ 255
-unfolding byteAt
-byte-top ram rom h g a = picked (λ (n : ℕ). n ≤ 255) (ltb a (length ram)) (h a) (picked (λ (n : ℕ). n ≤ 255) (leb 1048576 (a + length rom)) (g (a + length rom - 1048576)) (lit≤ tt))
-
-reads-fine : (w : World) → Bytes (w .ram) → Bytes (w .rom) → Scanned Fine (scan instruction (source w) 0)
+pub reads-fine : (w : World) → Bytes (w .ram) → Bytes (w .rom) → ScannedTo 4 Fine (scan instruction (source w) 0)
 reads-fine w h g = scanned instruction of-instruction (source w) (λ j. byte-top (w .ram) (w .rom) h g (codeAt (fileOf (w .state .file) PS) (fileOf (w .state .file) PC) j)) 0
 
 -- ---- the calls
@@ -127,7 +133,7 @@ pub step-comes : (w : World) → Bytes (w .ram) → Bytes (w .rom) → Comes ste
 unfolding step stepBy awake decoded exec run
 step-comes w h g = checked-comes w (awake kept w) (go (w .state .marks .halted) (scan instruction (source w) 0) (reads-fine w h g))
   where
-    go : (t : Bool) (r : Read Instr) → Scanned Fine r → Comes stepTop stepRefusals (seen (pick t (refusal 8) (decoded kept r w)))
+    go : (t : Bool) (r : Read Instr) → ScannedTo 4 Fine r → Comes stepTop stepRefusals (seen (pick t (refusal 8) (decoded kept r w)))
     go false (known i n) (read q) = within-step _ (of-stepping i q n .at (starting i w))
     go false (unknown k n) (unread a b) = stops-by (as-read k a b)
     go true r q = stops-by (later (later first))

@@ -1,3 +1,5 @@
+pub mod Quiet
+pub mod Widths
 pub mod RepeatRuns
 pub mod RepeatCount
 pub mod RepeatFile
@@ -20,6 +22,8 @@ pub mod BoundsReading
 pub mod BoundsCodes
 pub mod BoundsStep
 pub mod BoundsPrepare
+pub mod PortOnce
+pub mod Log
 pub mod Calls
 pub mod CallsStandIns
 pub mod CallsCode
@@ -27,3 +31,7 @@ pub mod Runs
 pub mod RunsStandIns
 pub mod RunsCode
 pub mod HeldOff
+pub mod LogCode
+pub mod Outcomes
+pub mod RunsFirst
+pub mod Borrow

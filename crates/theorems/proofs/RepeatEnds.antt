@@ -1,12 +1,10 @@
 -- In code a repeat ends under any plan of services: RAM stays a memory of bytes, and over such every step is answered.
-use Prim.Native.Nat.{ℕ, _+_, _/_, _%_, _≤_, _<_}
+use Prim.Native.Nat.{ℕ, _/_, _%_, _≤_, _<_}
 use mathlib.Core.Path.{_≡_, sym, subst}
 use mathlib.Core.Bool.{Bool, true, false}
 use mathlib.Core.List.{List}
-use native.Mathlib.Decide.{decLt, ℕ-discrete}
 use native.Mathlib.Omega.{arith}
-use lib.ListN.{length, getD, set}
-use lib.Seq.{getD-set-same, getD-set-other, set-out}
+use lib.ListN.{set}
 use Rattle.sheet.specs.declared.Bus.{Bus}
 use Rattle.sheet.specs.Memory.{physical, next, writeMem}
 use Rattle.sheet.specs.World.{World}
@@ -19,25 +17,18 @@ use Rattle.theorems.specs.Bounds.{Bytes}
 use Rattle.theorems.specs.Repeat as statement
 use Rattle.theorems.specs.Repeat.{Block, elements, Engine, Call, stepped, interrupted, Calls, no-call, and-then, Gap, quiet, service, Own, begun, next-own, Taken}
 use Rattle.theorems.specs.RepeatCode.{code}
+use Rattle.theorems.proofs.Widths.{set-under}
 use Rattle.theorems.proofs.Repeat.{Faithful, ready, told-so, good-itself, call-leaves}
 use Rattle.theorems.proofs.RepeatPrimitive.{left-of}
 use Rattle.theorems.proofs.RepeatCode.{code-faithful, code-demand3, code-answers}
 
 -- ---- every call leaves bytes
 
-set-bytes : (l : List ℕ) (i v : ℕ) → v ≤ 255 → Bytes l → Bytes (set l i v)
-set-bytes l i v h b n = go (ℕ-discrete n i) (decLt i (length l))
-  where
-    go : Dec (n ≡ i) → Dec (i < length l) → getD (set l i v) n 0 ≤ 255
-    go (yes e) (yes k) = rw (e, getD-set-same l i v 0 k) h
-    go (yes e) (no k) = rw (set-out l i v (omega arith)) (b n)
-    go (no e) k = rw (getD-set-other l i n v 0 e) (b n)
-
 write-bytes : (w : Bool) (ram : List ℕ) (g o v : ℕ) → Bytes ram → Bytes (writeMem w ram g o v)
 unfolding writeMem
-write-bytes false ram g o v b = set-bytes ram (physical g o) (v % 256) (omega arith) b
+write-bytes false ram g o v b = set-under 255 ram (physical g o) (v % 256) (omega arith) b
 write-bytes true ram g o v b =
-    set-bytes (set ram (physical g o) (v % 256)) (physical g (next o)) (v / 256 % 256) (omega arith) (set-bytes ram (physical g o) (v % 256) (omega arith) b)
+    set-under 255 (set ram (physical g o) (v % 256)) (physical g (next o)) (v / 256 % 256) (omega arith) (set-under 255 ram (physical g o) (v % 256) (omega arith) b)
 
 record GoodBytes (w v : World) : Type 0 where
   good : Good w v

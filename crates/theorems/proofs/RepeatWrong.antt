@@ -1,7 +1,7 @@
 -- Four engines that demand 3 rules out: one that does a whole repeat in one step, one that writes every byte there and idles
 -- through the other steps, one that returns to the last prefix only, and one that loses its place in a service. Each is the
 -- definition, spoilt; the claim is refuted on the example's move of three bytes.
-use Prim.Native.Nat.{ℕ, zero, suc, _+_}
+use Prim.Native.Nat.{ℕ, zero, suc, _+_, _-_, _<_}
 use mathlib.Core.Path.{_≡_, refl, sym, ap, _∙_}
 use mathlib.Core.Logic.{_≢_}
 use mathlib.Core.List.{List, [], _∷_}
@@ -15,7 +15,7 @@ use Rattle.sheet.specs.World.{World, world, withState, withFile}
 use Rattle.sheet.specs.Handler.{Event, Outcome, refused, done}
 use Rattle.sheet.specs.Block.{steppedOf}
 use Rattle.sheet.specs.Step.{step, interrupt}
-use Rattle.theorems.specs.Repeat.{single, singles, reg, walk, low, target-byte, placed, quiet, begun, next-own, After, Demand3}
+use Rattle.theorems.specs.Repeat.{Block, single, singles, reg, elements, Kept, Engine, Taken, walk, low, target-byte, placed, quiet, begun, next-own, After, Demand3}
 use Rattle.theorems.specs.RepeatEngines.{accesses, accepts, engine}
 use Rattle.theorems.proofs.RepeatExample.{move3, start, back, opened, three-elements, Mine, mine, Goes, taken, second, goes-by}
 use Rattle.theorems.proofs.RepeatFile.{placed-reads}
@@ -28,13 +28,18 @@ after-first wrong v t e d =
     let k = d move3 start (taken (engine wrong interrupt) v (accesses t) (accepts e)) Mine mine in
     k .on-the-way 1 _ v (rw three-elements (lit≤ tt)) (next-own begun (quiet refl) (accepts e))
 
--- PC is on the first byte after steps 1 and 2
-on-first : (c p j : ℕ) → reg (withState start (withFile (start .state) (placed c p (singles move3 start j .state .file)))) PC ≡ p
-on-first c p j = placed-reads c p (singles move3 start j .state .file) (singles-keep move3 start refl refl j .long) .pc
+-- WHATEVER ENGINE: where more than one element is due, after own step 1 CW is one less and PC is on the first byte
+pub first-own-step : (E : Engine) → Demand3 E → (i : Block) (w v : World) (o : E .Shown) → Taken E i w → 1 < elements i w → E .Step w 0 v o
+    → (reg v CW ≡ reg w CW - 1) × (reg v PC ≡ reg w PC)
+first-own-step E d i w v o t l s =
+    let a = d i w t (Kept i w (elements i w)) (λ a k. k) .on-the-way 1 _ v l (next-own begun (quiet refl) s) in
+    let r = placed-reads (reg w CW - 1) (reg w PC) (singles i w 1 .state .file) (singles-keep i w (t .blocks) (t .whole) 1 .long) in
+    (ap (λ f. getD f CW 0) (a .registers) ∙ r .cw, ap (λ f. getD f PC 0) (a .registers) ∙ r .pc)
 
 -- an engine whose first step leaves PC off the first byte has no demand 3
 refuted : (wrong : World → Outcome Unit) (v : World) (t : List Event) → wrong start ≡ done tt v t → reg v PC ≢ 64 → Demand3 (engine wrong interrupt) → ⊥
-refuted wrong v t e off d = off (ap (λ f. getD f PC 0) (after-first wrong v t e d .registers) ∙ on-first 2 64 1)
+refuted wrong v t e off d =
+    off (first-own-step (engine wrong interrupt) d move3 start v (accesses t) (taken (engine wrong interrupt) v (accesses t) (accepts e)) (rw three-elements (lit≤ tt)) (accepts e) .1)
 
 -- it goes on at once while PC stays where it was
 hurry : ℕ → ℕ → Outcome Unit → Outcome Unit

@@ -5,3 +5,7 @@ pub mod Bounds
 pub mod Runs
 pub mod RunsCode
 pub mod StandIns
+pub mod Rows
+pub mod Access
+pub mod Outcomes
+pub mod LogCode
