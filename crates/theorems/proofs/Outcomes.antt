@@ -27,19 +27,19 @@ use Rattle.sheet.specs.Reading as reading
 use Rattle.sheet.specs.Reading.{Read, known, unknown, scan}
 use Rattle.sheet.specs.Encoding.{Prefix, unprefixed, withPrefix, prefixOf, lookUp}
 use Rattle.sheet.specs.FirstByte.{firstBytes, afterPrefix, prefixed, instruction}
-use Rattle.sheet.specs.Step.{fits, sound, refusal, source, codeAt, starting, stepping, decoded, awake, stepBy, step, interrupting, interruptBy, interrupt}
+use Rattle.sheet.specs.Step.{fits, placesGood, sound, refusal, source, codeAt, starting, stepping, decoded, awake, stepBy, step, interrupting, interruptBy, interrupt}
 use Rattle.portlog.proofs.Records.{end-empty}
 use Rattle.portlog.proofs.Whole.{end-read}
 use Rattle.theorems.specs.Bounds.{Bytes}
 use Rattle.theorems.specs.Rows.{Use}
 use Rattle.theorems.specs.Access.{accessOf, tapeNeed, logNeed}
-use Rattle.theorems.specs.Outcomes.{space, Unsound, fixed-bit, tape-place, log-place, count-over, Passes, IsPrefix, StepOf, too-large, unsound, asleep, fourth-prefix, no-instruction, short-tape, full-log, finished, InterruptOf, call-too-large, call-unsound, masked, taken, ReadOf, beyond, malformed, at-end, met}
+use Rattle.theorems.specs.Outcomes.{space, Unsound, fixed-bit, tape-place, log-place, count-over, marked-and-halted, Passes, IsPrefix, StepOf, too-large, unsound, asleep, fourth-prefix, no-instruction, short-tape, full-log, finished, InterruptOf, call-too-large, call-unsound, held, masked, taken, ReadOf, beyond, malformed, at-end, met}
 use Rattle.theorems.proofs.Quiet.{Silent, silent, quiet-silent}
 use Rattle.theorems.proofs.Widths.{byte-top}
 use Rattle.theorems.proofs.BoundsReading.{Fine, ScannedTo, read, unread, scanned}
 use Rattle.theorems.proofs.BoundsCodes.{of-code}
 use Rattle.theorems.proofs.BoundsStep.{of-interrupting, reads-fine, step-is}
-use Rattle.theorems.proofs.PortOnce.{Comes, tape-short, log-short, goes, ComesIn, passes, stepping-comes, fine-read}
+use Rattle.theorems.proofs.PortOnce.{Comes, tape-short, log-short, goes, ComesIn, not-so, passes, stepping-comes, fine-read}
 
 -- ---- the checks
 
@@ -219,10 +219,6 @@ module _ (w : World) (h : Bytes (w .ram)) (g : Bytes (w .rom)) where
 
 -- ---- an interrupt call
 
-not-so : (a : Bool) → not a ≡ true → a ≡ false
-not-so true e = sym e
-not-so false e = refl
-
 module _ (x : ℕ) (m : Bool) (w : World) where
   entered : Passes w → w .state .marks .loaded ≡ false → (m && not (flagOf (pswOf (w .state)) IE)) ≡ false → (o : Outcome Unit) → runBy kept (interrupting x) w ≡ o → Silent o → InterruptOf x m w (seen o)
   unfolding run
@@ -249,7 +245,13 @@ module _ (x : ℕ) (m : Bool) (w : World) where
   interrupt-only (call-unsound l u) = rw (fits-so w l, sound-not w u)
   interrupt-only (held p l) = rw (fits-so w (p .fit), sound-so w p, l)
   interrupt-only (masked p l y z) = rw (fits-so w (p .fit), sound-so w p, l, y, z)
-  interrupt-only (taken p l e q) = rw (fits-so w (p .fit), sound-so w p, l, e, q)
+  interrupt-only (taken p l e q) =
+      let r : Outcome Unit = runBy kept (interrupting x) w in
+      let first : seen (interrupt x m w) ≡ seen (pick (w .state .marks .loaded) (refusal 13) (pick (m && not (flagOf (pswOf (w .state)) IE)) (refusal 7) r)) = rw (fits-so w (p .fit), sound-so w p) in
+      first
+      ∙ ap (λ (b : Bool). seen (pick b (refusal 13) (pick (m && not (flagOf (pswOf (w .state)) IE)) (refusal 7) r))) l
+      ∙ ap (λ (b : Bool). seen (pick b (refusal 7) r)) e
+      ∙ ap seen q
 
 -- ---- the reading of a log
 

@@ -1,7 +1,7 @@
 -- A step makes the record of the one port access that its instruction makes, and no other; and when it is refused by 5 or 6.
 use Prim.Native.Nat.{ℕ, _+_, _%_, _≤_, _<_}
 use mathlib.Core.Path.{_≡_, refl, sym, ap, subst, _∙_}
-use mathlib.Core.Bool.{Bool, true, false, _&&_, and-eq-true-iff}
+use mathlib.Core.Bool.{Bool, true, false, not, _&&_, and-eq-true-iff}
 use mathlib.Core.List.{List, [], _∷_}
 use mathlib.Core.Logic.{_≢_}
 use native.Mathlib.Nat.{add-zero}
@@ -33,7 +33,7 @@ use Rattle.sheet.specs.Ports.{portNumber, ports}
 use Rattle.sheet.specs.Reading.{known}
 use Rattle.sheet.specs.Traps.{untrapped}
 use Rattle.sheet.specs.Execute.{operation, execute}
-use Rattle.sheet.specs.Step.{fits, sound, starting, stepping, step}
+use Rattle.sheet.specs.Step.{fits, placesGood, sound, starting, stepping, step}
 use Rattle.sheet.proofs.StepLaws.{Stepped, begins}
 use Rattle.portlog.specs.Whole.{Row, Sound}
 use Rattle.portlog.proofs.Growth.{access-sound}
@@ -196,14 +196,19 @@ leads-stepping i h n w =
 
 -- ---- what comes of them
 
+pub not-so : (b : Bool) → not b ≡ true → b ≡ false
+not-so true e = sym e
+not-so false e = refl
+
 -- what passes the checks, as a record
 pub passes : (w : World) → fits w ≡ true → sound w ≡ true → Passes w
 unfolding fits sound
 passes w f e =
     let (a, e₁) = and-eq-true-iff (fixedOf (pswOf (w .state))) _ .0 e in
-    let (b, e₂) = and-eq-true-iff (leb (w .state .progress .tape) (length (w .tape))) _ .0 e₁ in
+    let (g, m) = and-eq-true-iff (placesGood (w .state) (w .tape) (w .log)) _ .0 e₁ in
+    let (b, e₂) = and-eq-true-iff (leb (w .state .progress .tape) (length (w .tape))) _ .0 g in
     let (c, d) = and-eq-true-iff (leb (w .state .progress .log) (length (w .log))) _ .0 e₂ in
-    record { fit = leb-true _ _ f; fixed = a; tape-in = leb-true _ _ b; log-in = leb-true _ _ c; count-in = leb-true _ _ d }
+    record { fit = leb-true _ _ f; fixed = a; tape-in = leb-true _ _ b; log-in = leb-true _ _ c; count-in = leb-true _ _ d; marks-in = not-so _ m }
 
 -- records of an access, from places and lengths of tape and log, and the gap that is due
 pub data Comes (due : Use) (tape tapes log logs gap : ℕ) {A : Type 0} : Outcome A → Type 0 where
