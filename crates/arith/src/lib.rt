@@ -55,7 +55,7 @@ fn minus(word: bool, a: u16, b: u16, c: bool) -> Outcome
 }
 
 // ADD and ADDC.
-pub fn add(word: bool, a: u16, b: u16, c: bool, psw: u16) -> Flagged
+fn add(word: bool, a: u16, b: u16, c: bool, psw: u16) -> Flagged
     ensures { λ r. ⌜ r ≡ flagged (sum word a b c) psw ⌝ }
 {
     let t = plus(word, a, b, c);

@@ -6,7 +6,7 @@ ghost use Rattle.sheet.specs.Bits.{bitNumber, bitAt, withBit, bitColumn};
 use word::only;
 
 // The low 3 bits of n for a byte, the low 4 for a word.
-pub fn number(word: bool, n: u8) -> u8
+fn number(word: bool, n: u8) -> u8
     ensures { λ r. ⌜ (r ≡ bitNumber word n) × (r ≤ 15) ⌝ }
 {
     if word { n % 16 } else { n % 8 }

@@ -298,7 +298,7 @@ pub fn of_place(word: bool, p: Place) -> Operand
     }
 }
 
-pub fn of_source(word: bool, s: Source) -> Operand
+fn of_source(word: bool, s: Source) -> Operand
     ensures { λ r. ⌜ r ≡ words.ofSource word s ⌝ }
 {
     match s {

@@ -47,7 +47,7 @@ pub fn seg_or(seg: Override, usual: u8) -> u8
 }
 
 // An address form with its displacement.
-pub fn formed(p: Prefixes, n: u8, disp: u16) -> Address
+fn formed(p: Prefixes, n: u8, disp: u16) -> Address
     ensures { λ r. ⌜ r ≡ formedOf p n disp ⌝ }
 {
     let form = forms::form_at(n);
@@ -120,7 +120,7 @@ pub fn shift_at(n: u8) -> Shift
 }
 
 // A displacement: none, a byte with its sign, a word.
-pub fn displacement(ram: &[u8], rom: &[u8], ps: u16, pc: u16, mode: u8, i: u16) -> NumberRead
+fn displacement(ram: &[u8], rom: &[u8], ps: u16, pc: u16, mode: u8, i: u16) -> NumberRead
     requires { ⌜ i ≤ 6 ⌝ }
     ensures { λ r. ⌜ Takes ℕ (displacementRead mode) (codeByte (now (ram .entry)) (now (rom .entry)) ps pc) i (r .value) (r .next) 2 ⌝ }
 {
@@ -140,7 +140,7 @@ pub fn displacement(ram: &[u8], rom: &[u8], ps: u16, pc: u16, mode: u8, i: u16) 
 }
 
 // Form 6 without displacement is a 16-bit address instead.
-pub fn address(ram: &[u8], rom: &[u8], ps: u16, pc: u16, p: Prefixes, m: u8, i: u16) -> AddressRead
+fn address(ram: &[u8], rom: &[u8], ps: u16, pc: u16, p: Prefixes, m: u8, i: u16) -> AddressRead
     requires { ⌜ i ≤ 6 ⌝ }
     ensures { λ r. ⌜ Takes Address (addressRead p (modField m) (memField m)) (codeByte (now (ram .entry)) (now (rom .entry)) ps pc) i (r .address) (r .next) 2 ⌝ }
 {

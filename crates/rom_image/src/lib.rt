@@ -61,7 +61,7 @@ pub struct Restored {
     pub len: usize,
 }
 
-pub fn restore(lines: &[u8], image: &mut [u8]) -> Restored
+fn restore(lines: &[u8], image: &mut [u8]) -> Restored
     ensures { λ r. ⌜ Restores (now (lines .entry)) (now (image .entry)) (r .fits) (r .len) (now (image .exit)) ⌝ }
 {
     let mut column = 0;
