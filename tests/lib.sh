@@ -1,17 +1,7 @@
 # For scripts that run the built programs from outside.
 
-# the kit that `rt` belongs to; its folder has what programs are run with
-kit=${RATTLE_HOME:-$(dirname "$(dirname "$(readlink -f "$(command -v rt)")")")}
-tools=$kit/on/$(uname -m)/toolchain
-programs=$(cd "$(dirname "${BASH_SOURCE[0]}")/.." && pwd)/target/bin
-
-# run_program NAME [WORD..]: target/bin/NAME. It is an x86-64 program: on another processor the kit has an emulator
-run_program() {
-    local name=$1 emulator=$tools/bin/qemu-x86_64
-    shift
-    [ -x "$emulator" ] || emulator=
-    ${emulator:+"$emulator"} "$tools/lib/ld-linux-x86-64.so.2" --library-path "$tools/lib" "$programs/$name" "$@"
-}
+home=$(cd "$(dirname "${BASH_SOURCE[0]}")/.." && pwd)
+. "$home/commands/parts/programs.sh"
 
 # build_second: the second engine's programs; $judge is the one that makes, answers and compares cases
 judge=second/target/release/judge
