@@ -35,5 +35,5 @@ END {
     else if (parts > 0) warn("rider " riders + 1 " is cut short: the tape has " parts " of his 4 bytes")
     else if (!ended) warn("the tape does not end with FF")
     if (ended && unread > 0) warn(unread " bytes behind FF are left unread")
-    if (warnings != "") printf "\n%s", warnings
+    if (warnings != "") printf "%s%s", season == "" ? "" : "\n", warnings
 }

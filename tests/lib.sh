@@ -27,3 +27,44 @@ same() {
         diff "$2" "$3" | head -25
     fi
 }
+
+# ---- for tests of ./v30
+
+# enter_room: $v30 is the command, and the test goes on in a temporary folder
+enter_room() {
+    v30=$home/v30
+    room=$(mktemp -d) || exit 2
+    trap 'rm -rf "$room"' EXIT
+    cd "$room" || exit 2
+}
+
+# rom HEX..: an image of 16 bytes, which reset starts at its first; the rest is NOP
+rom() {
+    { bytes "$@"; bytes 90 90 90 90 90 90 90 90 90 90 90 90 90 90 90 90; } | head -c 16 >rom
+}
+
+# ends NAME STATUS [WORD..]: v30 with these words ends so, and writes the lines on standard input and nothing else
+ends() {
+    local name=$1 status=$2
+    shift 2
+    { cat; echo "status $status"; } >wanted
+    "$v30" "$@" >got 2>&1
+    echo "status $?" >>got
+    same "$name" wanted got
+}
+
+# refuses NAME STATUS LINE [WORD..]: v30 says this one line and ends so, and the log that was there before is as it was
+refuses() {
+    local name=$1 status=$2 line=$3
+    shift 3
+    echo 'an earlier log' >old.log
+    { echo "v30: $line"; echo "status $status"; echo 'an earlier log'; echo 'nothing else'; } >wanted
+    touch got before after
+    ls -A >before
+    "$v30" "$@" >got 2>&1
+    echo "status $?" >>got
+    cat old.log >>got
+    ls -A >after
+    if cmp -s before after; then echo 'nothing else' >>got; else diff before after >>got; fi
+    same "$name" wanted got
+}

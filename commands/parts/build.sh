@@ -10,6 +10,11 @@ is_built() {
     [ -z "$(find "$home/crates.txt" "$home/crates" -newer "$kept/built" -print -quit)" ]
 }
 
+# all_programs: those of all commands
+all_programs() {
+    sed -n "s/^needs \([a-z]\)/\1/p" "$home"/commands/*.sh | tr " " "\n" | sort -u
+}
+
 # needs NAME..: sees that these programs can be run; whatever is to be built is built in one go, for all commands
 needs() {
     [ ! -d "$home/programs" ] || return 0
@@ -57,7 +62,7 @@ how_far() {
 
 build() {
     local names count began=$SECONDS told=0 status
-    names=$(sed -n 's/^needs //p' "$home"/commands/*.sh | tr ' ' '\n' | sort -u)
+    names=$(all_programs)
     count=$(reach $names | wc -l)
     touch "$kept/begun"
     echo "v30: proving and building the programs from their sources: $count crates, from nothing half an hour on two processors" >&2
