@@ -33,3 +33,7 @@ over-early h e = record { done = h .done; is = h .is; ends = inl e }
 -- of m pieces p are left, and one is played
 pub one-more : (m p : ℕ) {plan : Plan} {calls : List ℕ} {s s′ s″ : Session} {ram rom tape log ram′ log′ ram″ log″ : List ℕ} → p ≤ m → 0 < p → Plays (m - p) calls plan s ram rom tape log s′ ram′ log′ → s′ .over ≡ false → Plays 1 calls plan s′ ram′ rom tape log′ s″ ram″ log″ → Plays (m - (p - 1)) calls plan s ram rom tape log s″ ram″ log″
 one-more m p l z h o g = let e : m - p + 1 ≡ m - (p - 1) = omega arith in so-many e (plays-more h o g)
+
+-- of m pieces none is left
+pub all-spent : (m p : ℕ) {plan : Plan} {calls : List ℕ} {s s′ : Session} {ram rom tape log ram′ log′ : List ℕ} → p ≡ 0 → Plays (m - p) calls plan s ram rom tape log s′ ram′ log′ → Plays m calls plan s ram rom tape log s′ ram′ log′
+all-spent m p z h = let e : m - p ≡ m = omega arith in so-many e h

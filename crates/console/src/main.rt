@@ -84,19 +84,7 @@ fn play(
         if s.over {
             return s;
         }
-        s = go_on(
-            s,
-            ram,
-            rom,
-            tape,
-            log,
-            schedule,
-            plan,
-            turns,
-            w,
-            keys,
-            counts,
-        );
+        s = go_on(s, ram, rom, tape, log, schedule, plan, w, keys, counts);
         clock = files::progress(clock, s.steps);
         pieces = pieces - 1;
     }
@@ -122,7 +110,6 @@ fn conclude(ram: &mut [u8], rom: &[u8], tape: &[u8], schedule: &[u64], plan: Pla
         &mut log,
         schedule,
         plan,
-        turns,
         w,
         &mut keys,
         &mut counts,
