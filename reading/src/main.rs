@@ -109,15 +109,7 @@ fn sentences() -> Result<String, Refused> {
     let notes = Notes::default();
     let mut told = String::new();
     for line in lines {
-        let here = Here {
-            address: line.address,
-            notes: &notes,
-            before: None,
-            set: &[],
-            start: 0,
-            shown: &|_| true,
-            again: &|_| false,
-        };
+        let here = Here::alone(line.address, &notes);
         let pieces = sentence::sentence(&line.instruction, &here)
             .ok_or_else(|| refused(format!("there is no sentence for the line '{}'", line.text)))?;
         told += &format!("{}\t{}\n", line.text, plain(&pieces));

@@ -99,7 +99,20 @@ pub fn bits(value: u16) -> String {
     }
 }
 
-impl Here<'_> {
+impl<'a> Here<'a> {
+    /// An instruction of which nothing around is known: as if every address had its line.
+    pub fn alone(address: u32, notes: &'a Notes) -> Here<'a> {
+        Here {
+            address,
+            notes,
+            before: None,
+            set: &[],
+            start: 0,
+            shown: &|_| true,
+            again: &|_| false,
+        }
+    }
+
     /// A register, with what it holds here.
     pub fn register(&self, name: &str) -> String {
         match self.notes.operand(self.address, name) {
@@ -239,9 +252,9 @@ impl Here<'_> {
         if (self.shown)(address) {
             vec![Piece::Link(address, self.name(address))]
         } else if address < self.start {
-            words(format!("{}, outside of this ROM,", self.name(address)))
+            words(format!("{} (outside of this ROM)", self.name(address)))
         } else {
-            words(format!("{}, inside of another line,", self.name(address)))
+            words(format!("{} (inside of another line)", self.name(address)))
         }
     }
 
