@@ -6,7 +6,8 @@ use crate::line::Line;
 use crate::listing::Listing;
 use crate::loops::{Bar, LEVELS};
 use crate::notes::{Note, Notes};
-use crate::phrase::{many, words, Piece};
+use crate::number::many;
+use crate::phrase::{words, Piece};
 use crate::seen::Seen;
 
 pub struct Row<'a> {

@@ -1,7 +1,8 @@
 //! Sums, differences, comparisons and logic.
 use super::is_word;
+use crate::number::{bits, in_hex};
 use crate::operand::Operand::{self, Number, Register};
-use crate::phrase::{bits, in_hex, Here};
+use crate::phrase::Here;
 
 /// "bits 4 to 7 of AL (F0h)"
 fn bits_of(to: &Operand, value: u16, typed: &str, here: &Here) -> String {

@@ -1,7 +1,8 @@
 //! Shifts, rotations, and single bits.
 use super::is_word;
+use crate::number::many;
 use crate::operand::Operand::{self, Fixed, Number, Register};
-use crate::phrase::{many, Here};
+use crate::phrase::Here;
 
 /// "by 3 bits"
 fn distance(places: &Operand, here: &Here) -> Option<String> {

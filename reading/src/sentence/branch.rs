@@ -1,6 +1,7 @@
 //! Where the program goes on.
+use crate::number::both;
 use crate::operand::Operand::{self, Far, Fixed, Memory, Near, Number};
-use crate::phrase::{both, far, words, Here, Piece};
+use crate::phrase::{far, words, Here, Piece};
 
 /// What a comparison right before tells: the two that were compared.
 fn compared(here: &Here) -> Option<(String, String)> {

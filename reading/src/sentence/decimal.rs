@@ -1,6 +1,7 @@
 //! Strings of decimal digits, and bit fields.
+use crate::number::many;
 use crate::operand::Operand::{self, Memory, Number};
-use crate::phrase::{many, Here};
+use crate::phrase::Here;
 
 /// A field's length is one more than its code, of which four bits count.
 fn length(code: &Operand, here: &Here) -> String {

@@ -1,7 +1,8 @@
 //! Products, quotients, and conversions of AL and AW.
 use super::is_word;
+use crate::number::signed;
 use crate::operand::Operand;
-use crate::phrase::{signed, Here};
+use crate::phrase::Here;
 
 fn product(by: &Operand, how: &str, here: &Here) -> String {
     let by_words = here.value(by);

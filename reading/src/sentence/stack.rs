@@ -1,6 +1,7 @@
 //! The stack.
+use crate::number::{both, many, signed};
 use crate::operand::Operand::{self, Fixed, Number};
-use crate::phrase::{both, many, signed, Here};
+use crate::phrase::Here;
 
 pub fn sentence(name: &str, operands: &[Operand], here: &Here) -> Option<String> {
     Some(match (name, operands) {

@@ -1,7 +1,8 @@
 //! MOV and its like, ports, and what concerns the processor as a whole.
 use super::{accumulator, byte_or_word};
+use crate::number::{both, in_hex};
 use crate::operand::Operand::{self, Fixed, Memory, Number, Register, Segment};
-use crate::phrase::{both, in_hex, Here};
+use crate::phrase::Here;
 
 /// Registers that commonly point into memory.
 const POINTERS: [&str; 4] = ["BW", "BP", "IX", "IY"];
