@@ -2,12 +2,16 @@
 
 kept=$home/target/v30
 
+# are_there NAME..: whether these programs are there, of whatever sources
+are_there() {
+    local name
+    for name; do [ -x "$home/target/bin/$name" ] || return 1; done
+}
+
 # is_built NAME..: whether these programs were built from the sources as they stand
 is_built() {
-    local name
-    [ -f "$kept/built" ] || return 1
-    for name; do [ -x "$home/target/bin/$name" ] || return 1; done
-    [ -z "$(find "$home/crates.txt" "$home/crates" -newer "$kept/built" -print -quit)" ]
+    [ -f "$kept/built" ] && are_there "$@" &&
+        [ -z "$(find "$home/crates.txt" "$home/crates" -newer "$kept/built" -print -quit)" ]
 }
 
 # all_programs: those of all commands
@@ -30,7 +34,7 @@ needs() {
     fi
     is_built "$@" || build
     exec {lock}>&-
-    is_built "$@" || fail 1 "$* is proved and its program is gone: remove $home/target and try again"
+    are_there "$@" || fail 1 "$* is proved and its program is gone: remove $home/target and try again"
 }
 
 # reach NAME..: the crates that these stand on, with themselves
