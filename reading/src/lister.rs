@@ -21,7 +21,9 @@ pub fn print(words: &[String], image: &[u8]) -> Result<String, String> {
     // one that refuses may have read only a part
     let _ = writer.join();
     if !said.stderr.is_empty() {
-        return Err(String::from_utf8_lossy(&said.stderr).trim_end().to_string());
+        // without the program's name
+        let line = String::from_utf8_lossy(&said.stderr).trim_end().to_string();
+        return Err(line.split_once(": ").map_or(line.clone(), |(_, why)| why.to_string()));
     }
     if !said.status.success() {
         return Err("the lister broke off".to_string());

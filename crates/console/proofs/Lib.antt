@@ -1,1 +1,1 @@
-pub mod ResetLaws
+pub mod PlayLaws

@@ -1,6 +1,8 @@
-// The console: runs a ROM over a tape from reset on. Its arguments are ROM, TAPE, INTERRUPTS, LOG, RAM and STEPS, as `v30 run`
-// hands them on; an empty one is left out. It begins only when all of them can be used, and makes LOG anew.
+// The console: runs a ROM over a tape from reset on. Its arguments, which an empty one leaves out, are as `v30 run` and `v30 trace` hand them
+// on: ROM, TAPE, INTERRUPTS, LOG, RAM, STEPS, UNTIL (an address), the files RAM-IN, RAM-OUT and SEEN, the first and the last step that
+// are traced, and the file of the report. It begins only when all of them can be used, and makes its files anew.
 mod report;
+mod watch;
 
 use files::Loaded;
 use files::load;
@@ -8,13 +10,18 @@ use files::say;
 use io::print_decimal;
 use libc::STDERR_FILENO;
 use schedule::Fault;
+use turns::Plan;
 use turns::Session;
+use watch::Watch;
 ghost use Rattle.io.specs.Counts.{Counts};
 ghost use Rattle.sheet.specs.Step.{reset};
 ghost use Rattle.turns.specs.Stand.{begun};
-ghost use Rattle.session.specs.Turns.{Played};
+ghost use Rattle.session.specs.Turns.{Plays};
 
 const STEPS: u64 = 10000000;
+
+// No address.
+const NOWHERE: usize = 1048576;
 
 // The buffers come from functions: of a call's result the length is known, and no check computes its elements.
 
@@ -22,20 +29,53 @@ fn address_space() -> [u8; 1048576] {
     [0; 1048576]
 }
 
-fn call_buffer() -> [u64; 4096] {
-    [0; 4096]
+fn call_buffer() -> [u64; 32768] {
+    [0; 32768]
 }
 
-// Plays a session from reset on to its end.
+fn key_buffer() -> [u32; 65536] {
+    [0; 65536]
+}
+
+fn count_buffer() -> [u64; 65536] {
+    [0; 65536]
+}
+
+// One turn of a session, and what is seen of it.
+fn go_on(
+    s: Session,
+    ram: &mut [u8],
+    rom: &[u8],
+    tape: &[u8],
+    log: &mut [u8],
+    schedule: &[u64],
+    plan: Plan,
+    w: Watch,
+    keys: &mut [u32; 65536],
+    counts: &mut [u64; 65536],
+) -> Session
+    ensures { λ r. ⌜ Plays 1 (now (schedule .entry)) plan s (now (ram .entry)) (now (rom .entry)) (now (tape .entry)) (now (log .entry)) r (now (ram .exit)) (now (log .exit)) ⌝ }
+{
+    let mut line = trace::blank();
+    let end = watch::put_words(&mut line, s, ram, rom, w);
+    let t = session::play(s, ram, rom, tape, log, schedule, plan, 1);
+    watch::note(line, end, s, t, log, schedule, w, keys, counts);
+    t
+}
+
+// Plays a session from reset on to its end, or to more turns than anyone waits for.
 fn play(
     ram: &mut [u8],
     rom: &[u8],
     tape: &[u8],
     log: &mut [u8],
     schedule: &[u64],
-    limit: u64,
+    plan: Plan,
+    w: Watch,
+    keys: &mut [u32; 65536],
+    counts: &mut [u64; 65536],
 ) -> Session
-    ensures { λ r. ⌜ Played (now (schedule .entry)) limit (begun reset) (now (ram .entry)) (now (rom .entry)) (now (tape .entry)) (now (log .entry)) r (now (ram .exit)) (now (log .exit)) ⌝ }
+    ensures { λ r. ⌜ Plays 18446744073709551615 (now (schedule .entry)) plan (begun reset) (now (ram .entry)) (now (rom .entry)) (now (tape .entry)) (now (log .entry)) r (now (ram .exit)) (now (log .exit)) ⌝ }
 {
     let mut s = turns::begin(calls::reset());
     let mut clock = files::start();
@@ -44,43 +84,96 @@ fn play(
         if s.over {
             return s;
         }
-        s = session::play(s, ram, rom, tape, log, schedule, limit, 16);
+        s = go_on(s, ram, rom, tape, log, schedule, plan, w, keys, counts);
         clock = files::progress(clock, s.steps);
         pieces = pieces - 1;
     }
     s
 }
 
-// Plays, writes the log and then the report.
-fn conclude(ram: &mut [u8], rom: &[u8], tape: &[u8], schedule: &[u64], limit: u64) {
-    let out = files::open(4);
-    if !out.ok {
+// Plays, writes the files and then the report.
+fn conclude(ram: &mut [u8], rom: &[u8], tape: &[u8], schedule: &[u64], plan: Plan, w: Watch) {
+    let log_file = files::open(4);
+    let ram_file = files::open(9);
+    let seen_file = files::open(10);
+    let report = files::open(13);
+    if !(log_file.ok & (ram_file.ok & (seen_file.ok & report.ok))) {
         return;
     }
     let mut log = io::large_buffer();
-    let s = play(ram, rom, tape, &mut log, schedule, limit);
+    let mut keys = key_buffer();
+    let mut counts = count_buffer();
+    let s = play(
+        ram,
+        rom,
+        tape,
+        &mut log,
+        schedule,
+        plan,
+        w,
+        &mut keys,
+        &mut counts,
+    );
     let state = s.state;
-    if files::keep(out, &log, state.progress.log)
-        && !report::print_report(s, tape.len(), schedule.len())
+    if files::keep(log_file, b"the log", &log, state.progress.log)
+        && files::keep(ram_file, b"RAM", ram, ram.len())
+        && watch::keep_counts(seen_file, &keys, &counts)
+        && !report::print_report(
+            files::descriptor(report),
+            s,
+            plan,
+            ram,
+            rom,
+            tape.len(),
+            schedule.len(),
+        )
     {
         say(b"v30: cannot write the report\n");
     }
 }
 
-// The step limit.
+// The number that an argument is, where it is given.
+fn number_or(index: usize, other: u64) -> u64 {
+    if files::is_left_out(index) {
+        return other;
+    }
+    files::number(index)
+}
+
+// The plan of a session by its arguments.
+fn planned(limit: u64) -> Plan {
+    let until = number_or(7, NOWHERE as u64);
+    let traced = !files::is_left_out(11);
+    let counted = !files::is_left_out(10);
+    Plan {
+        limit,
+        single: (until < NOWHERE as u64) | (traced | counted),
+        until: until as usize,
+        keeps: !files::is_left_out(4),
+    }
+}
+
+fn watched() -> Watch {
+    Watch {
+        counts: !files::is_left_out(10),
+        from: number_or(11, schedule::NONE),
+        to: number_or(12, schedule::NONE),
+    }
+}
+
+// The step limit, and what RAM holds at first.
 fn with_ram(ram: &mut [u8], rom: &[u8], tape: &[u8], schedule: &[u64]) {
-    let limit = if files::is_left_out(6) {
-        STEPS
-    } else {
-        files::number(6)
-    };
+    let limit = number_or(6, STEPS);
     if schedule::MOST < limit {
         say(b"v30: --steps takes a number from 0 to ");
         print_decimal(STDERR_FILENO, schedule::MOST);
         say(b"\n");
         return;
     }
-    conclude(ram, rom, tape, schedule, limit);
+    let got = load(8, ram);
+    if got.ok {
+        conclude(ram, rom, tape, schedule, planned(limit), watched());
+    }
 }
 
 // How much RAM there is: what the ROM leaves of the address space, or less. If it cannot be had, says so and answers `NONE`.
@@ -145,7 +238,7 @@ fn with_text(rom: &[u8], tape: &[u8], text: &[u8]) {
 }
 
 fn with_tape(rom: &[u8], tape: &[u8]) {
-    let mut text = io::large_buffer();
+    let mut text = address_space();
     let got = load(3, &mut text);
     if got.ok {
         let n = got.len;

@@ -1,30 +1,42 @@
 // What the console prints as it ends.
 use io::print_decimal;
 use io::write_all;
-use libc::STDOUT_FILENO;
+use turns::Plan;
 use turns::Session;
 
-fn print(text: &[u8]) -> bool {
-    write_all(STDOUT_FILENO, text)
-}
-
 // Why a session stopped, in words.
-fn print_words(number: u8) -> bool {
+fn print_words(fd: i32, number: u8) -> bool {
     match number {
-        0 => print(b"the step limit is reached\n"),
-        1 => print(b"RAM and ROM are too long\n"),
-        2 => print(b"the machine's state is not sound\n"),
-        3 => print(b"the bytes at PS:PC are no instruction\n"),
-        4 => print(b"the instruction at PS:PC has a fourth prefix\n"),
-        5 => print(b"the tape is read to its end and the program wants more\n"),
-        6 => print(b"the log is full\n"),
-        8 => print(b"the machine is halted\n"),
-        _ => print(b"\n"),
+        1 => write_all(fd, b"RAM and ROM are too long\n"),
+        2 => write_all(fd, b"the machine's state is not sound\n"),
+        3 => write_all(fd, b"the bytes at PS:PC are no instruction\n"),
+        4 => write_all(fd, b"the instruction at PS:PC has a fourth prefix\n"),
+        5 => write_all(
+            fd,
+            b"the tape is read to its end and the program wants more\n",
+        ),
+        6 => write_all(
+            fd,
+            b"the log is full; run it without a log, or in parts by --steps\n",
+        ),
+        8 => write_all(fd, b"the machine is halted\n"),
+        _ => write_all(fd, b"\n"),
     }
 }
 
-fn print_number(before: &[u8], n: u64, behind: &[u8]) -> bool {
-    print(before) & (print_decimal(STDOUT_FILENO, n) & print(behind))
+// A session that was stopped from outside has reached its limit or its address.
+fn print_why(fd: i32, s: Session, plan: Plan) -> bool {
+    if s.number != 0 {
+        return print_words(fd, s.number);
+    }
+    if s.steps < plan.limit {
+        return write_all(fd, b"the address is reached\n");
+    }
+    write_all(fd, b"the step limit is reached\n")
+}
+
+fn print_number(fd: i32, before: &[u8], n: u64, behind: &[u8]) -> bool {
+    write_all(fd, before) & (print_decimal(fd, n) & write_all(fd, behind))
 }
 
 fn hex_digit(n: u16) -> u8 {
@@ -33,66 +45,81 @@ fn hex_digit(n: u16) -> u8 {
 }
 
 // A name and a register's four digits.
-fn print_word(name: &[u8], value: u16) -> bool {
+fn print_word(fd: i32, name: &[u8], value: u16) -> bool {
     let text = [
         hex_digit(value / 4096),
         hex_digit(value / 256),
         hex_digit(value / 16),
         hex_digit(value),
     ];
-    print(name) & print(&text)
+    write_all(fd, name) & write_all(fd, &text)
 }
 
-fn print_general(file: [u16; 14]) -> bool {
-    print_word(b"AW ", file[0])
-        & (print_word(b"  CW ", file[1])
-            & (print_word(b"  DW ", file[2]) & print_word(b"  BW ", file[3])))
+fn print_general(fd: i32, file: [u16; 14]) -> bool {
+    print_word(fd, b"AW ", file[0])
+        & (print_word(fd, b"  CW ", file[1])
+            & (print_word(fd, b"  DW ", file[2]) & print_word(fd, b"  BW ", file[3])))
 }
 
-fn print_pointers(file: [u16; 14]) -> bool {
-    print_word(b"  SP ", file[4])
-        & (print_word(b"  BP ", file[5])
-            & (print_word(b"  IX ", file[6]) & print_word(b"  IY ", file[7])))
+fn print_pointers(fd: i32, file: [u16; 14]) -> bool {
+    print_word(fd, b"  SP ", file[4])
+        & (print_word(fd, b"  BP ", file[5])
+            & (print_word(fd, b"  IX ", file[6]) & print_word(fd, b"  IY ", file[7])))
 }
 
-fn print_segments(file: [u16; 14]) -> bool {
-    print_word(b"\nPS ", file[9])
-        & (print_word(b"  SS ", file[10])
-            & (print_word(b"  DS0 ", file[11]) & print_word(b"  DS1 ", file[8])))
+fn print_segments(fd: i32, file: [u16; 14]) -> bool {
+    print_word(fd, b"\nPS ", file[9])
+        & (print_word(fd, b"  SS ", file[10])
+            & (print_word(fd, b"  DS0 ", file[11]) & print_word(fd, b"  DS1 ", file[8])))
 }
 
-fn print_registers(file: [u16; 14]) -> bool {
-    print_general(file)
-        & (print_pointers(file)
-            & (print_segments(file)
-                & (print_word(b"  PC ", file[12])
-                    & (print_word(b"  PSW ", file[13]) & print(b"\n")))))
+fn print_registers(fd: i32, file: [u16; 14]) -> bool {
+    print_general(fd, file)
+        & (print_pointers(fd, file)
+            & (print_segments(fd, file)
+                & (print_word(fd, b"  PC ", file[12])
+                    & (print_word(fd, b"  PSW ", file[13]) & write_all(fd, b"\n")))))
 }
 
 // What the schedule came to, where there is one.
-fn print_calls(s: Session, calls: usize) -> bool {
+fn print_calls(fd: i32, s: Session, calls: usize) -> bool {
     if calls == 0 {
         return true;
     }
     let made = s.made as u64;
-    print_number(b"interrupts ", made, b" of ")
-        & (print_number(b"", calls as u64, b" called, ")
-            & print_number(b"", s.refused, b" refused\n"))
+    print_number(fd, b"interrupts ", made, b" of ")
+        & (print_number(fd, b"", calls as u64, b" called, ")
+            & print_number(fd, b"", s.refused, b" refused\n"))
+}
+
+// The machine's counts.
+fn print_sums(fd: i32, s: Session, tape: usize) -> bool {
+    let state = s.state;
+    let read = state.progress.tape as u64;
+    let written = std::num::wrapping_add_u64(s.emptied, state.progress.log as u64);
+    print_number(fd, b"steps ", s.steps, b"\n")
+        & (print_number(fd, b"bus cycles ", s.cycles, b"\n")
+            & (print_number(fd, b"tape ", read, b" of ")
+                & (print_number(fd, b"", tape as u64, b" bytes\n")
+                    & print_number(fd, b"log ", written, b" bytes\n"))))
 }
 
 // The whole report, its last line last so that a report that is cut short is known.
-pub fn print_report(s: Session, tape: usize, calls: usize) -> bool {
+pub fn print_report(
+    fd: i32,
+    s: Session,
+    plan: Plan,
+    ram: &[u8],
+    rom: &[u8],
+    tape: usize,
+    calls: usize,
+) -> bool {
     let state = s.state;
     let file = state.file;
-    let read = state.progress.tape as u64;
-    let written = state.progress.log as u64;
-    print_number(b"steps ", s.steps, b"\n")
-        & (print_number(b"bus cycles ", s.cycles, b"\n")
-            & (print_number(b"tape ", read, b" of ")
-                & (print_number(b"", tape as u64, b" bytes\n")
-                    & (print_number(b"log ", written, b" bytes\n")
-                        & (print_calls(s, calls)
-                            & (print_registers(file)
-                                & (print_number(b"stopped with ", s.number as u64, b": ")
-                                    & print_words(s.number))))))))
+    print_sums(fd, s, tape)
+        & (print_calls(fd, s, calls)
+            & (print_registers(fd, file)
+                & (trace::write_stand(fd, state, ram, rom)
+                    & (print_number(fd, b"stopped with ", s.number as u64, b": ")
+                        & print_why(fd, s, plan)))))
 }

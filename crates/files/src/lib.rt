@@ -2,6 +2,7 @@
 use io::print_decimal;
 use io::write_all;
 use libc::STDERR_FILENO;
+use libc::STDOUT_FILENO;
 ghost use Rattle.io.specs.Counts.{Counts};
 
 pub fn say(text: &[u8]) {
@@ -102,7 +103,7 @@ pub fn number(index: usize) -> u64 {
     schedule::number(&word[..k])
 }
 
-// The log file that is to be written: whether all is well so far, whether one is wanted, and its descriptor.
+// A file that is to be written: whether all is well so far, whether one is wanted, and its descriptor.
 pub struct Output {
     pub ok: bool,
     pub wanted: bool,
@@ -114,7 +115,7 @@ pub fn open(index: usize) -> Output {
     let mut path = io::buffer();
     let k = os::arg(index, &mut path);
     if os::errno() != 0 {
-        fail(b"the log's name");
+        fail(b"a file's name");
         return Output {
             ok: false,
             wanted: true,
@@ -144,18 +145,28 @@ pub fn open(index: usize) -> Output {
     }
 }
 
-// Writes the used part of a log, and says so where it cannot.
-pub fn keep(out: Output, log: &[u8], used: usize) -> bool {
+// Where a file's text goes that is printed when no file is wanted.
+pub fn descriptor(out: Output) -> i32 {
+    if out.wanted {
+        return out.fd;
+    }
+    STDOUT_FILENO
+}
+
+// Writes the used part of a buffer, and says so where it cannot.
+pub fn keep(out: Output, what: &[u8], bytes: &[u8], used: usize) -> bool {
     if !out.wanted {
         return true;
     }
-    let n = within(used, log);
-    let written = io::write_all(out.fd, &log[..n]);
+    let n = within(used, bytes);
+    let written = io::write_all(out.fd, &bytes[..n]);
     let closed = libc::close(out.fd) == 0;
     if written & closed {
         return true;
     }
-    say(b"v30: cannot write the log\n");
+    say(b"v30: cannot write ");
+    say(what);
+    say(b"\n");
     false
 }
 

@@ -12,46 +12,42 @@ use Rattle.sheet.specs.Step.{interruptReport}
 use Rattle.sheet.specs.Run.{runs, runReported, ranReport}
 use Rattle.turns.specs.declared.Session.{Session}
 use Rattle.turns.specs.declared.Next.{Next}
+use Rattle.turns.specs.declared.Plan.{Plan}
 use Rattle.turns.specs.Stand.{nextOf, vectorOf, maskableOf, isCalled, budgetOf, answeredBy, ranBy}
 
 -- an interrupt call
-pub data Called (call : ℕ) (s : Session) (ram rom tape log : List ℕ) : Session → List ℕ → Type 0 where
+pub data Called (call : ℕ) (plan : Plan) (s : Session) (ram rom tape log : List ℕ) : Session → List ℕ → Type 0 where
   called : {number : ℕ} {t : State} {ram′ : List ℕ} {n : Bus}
       → interruptReport (vectorOf call) (maskableOf call) (world (s .state) ram rom tape log) ≡ report number (world t ram′ rom tape log) n
-      → Called call s ram rom tape log (answeredBy s number t n) ram′
+      → Called call plan s ram rom tape log (answeredBy s plan number t n) ram′
 
 -- a run
-pub data Continued (next : Next) (limit : ℕ) (s : Session) (ram rom tape log : List ℕ) : Session → List ℕ → List ℕ → Type 0 where
+pub data Continued (next : Next) (plan : Plan) (s : Session) (ram rom tape log : List ℕ) : Session → List ℕ → List ℕ → Type 0 where
   continued : {number : ℕ} {t : State} {ram′ log′ : List ℕ} {k : ℕ} {n : Bus}
-      → ranReport (runs (budgetOf (s .steps) limit (next .due)) (world (s .state) ram rom tape log)) ≡ runReported number (world t ram′ rom tape log′) k n
-      → Continued next limit s ram rom tape log (ranBy s number t k n limit (next .waits)) ram′ log′
+      → ranReport (runs (budgetOf (s .steps) (plan .limit) (next .due) (plan .single)) (world (s .state) ram rom tape log)) ≡ runReported number (world t ram′ rom tape log′) k n
+      → Continued next plan s ram rom tape log (ranBy s plan number t k n (next .waits)) ram′ log′
 
-pub data Turn (calls : List ℕ) (limit : ℕ) (s : Session) (ram rom tape log : List ℕ) : Session → List ℕ → List ℕ → Type 0 where
+pub data Turn (calls : List ℕ) (plan : Plan) (s : Session) (ram rom tape log : List ℕ) : Session → List ℕ → List ℕ → Type 0 where
   byCall : {s′ : Session} {ram′ : List ℕ}
-      → isCalled s (nextOf calls (s .made)) limit ≡ true
-      → Called (nextOf calls (s .made) .call) s ram rom tape log s′ ram′
-      → Turn calls limit s ram rom tape log s′ ram′ log
+      → isCalled s (nextOf calls (s .made)) (plan .limit) ≡ true
+      → Called (nextOf calls (s .made) .call) plan s ram rom tape log s′ ram′
+      → Turn calls plan s ram rom tape log s′ ram′ log
   byRun : {s′ : Session} {ram′ log′ : List ℕ}
-      → isCalled s (nextOf calls (s .made)) limit ≡ false
-      → Continued (nextOf calls (s .made)) limit s ram rom tape log s′ ram′ log′
-      → Turn calls limit s ram rom tape log s′ ram′ log′
+      → isCalled s (nextOf calls (s .made)) (plan .limit) ≡ false
+      → Continued (nextOf calls (s .made)) plan s ram rom tape log s′ ram′ log′
+      → Turn calls plan s ram rom tape log s′ ram′ log′
 
 -- so many turns, none of them of a session that was over
-pub data Turns (calls : List ℕ) (limit : ℕ) (s : Session) (ram rom tape log : List ℕ) : ℕ → Session → List ℕ → List ℕ → Type 0 where
-  none : Turns calls limit s ram rom tape log 0 s ram log
+pub data Turns (calls : List ℕ) (plan : Plan) (s : Session) (ram rom tape log : List ℕ) : ℕ → Session → List ℕ → List ℕ → Type 0 where
+  none : Turns calls plan s ram rom tape log 0 s ram log
   more : {k : ℕ} {s′ s″ : Session} {ram′ log′ ram″ log″ : List ℕ}
-      → Turns calls limit s ram rom tape log k s′ ram′ log′
+      → Turns calls plan s ram rom tape log k s′ ram′ log′
       → s′ .over ≡ false
-      → Turn calls limit s′ ram′ rom tape log′ s″ ram″ log″
-      → Turns calls limit s ram rom tape log (k + 1) s″ ram″ log″
-
--- some turns
-pub record Played (calls : List ℕ) (limit : ℕ) (s : Session) (ram rom tape log : List ℕ) (s′ : Session) (ram′ log′ : List ℕ) : Type 0 where
-  pub turns : ℕ
-  pub is : Turns calls limit s ram rom tape log turns s′ ram′ log′
+      → Turn calls plan s′ ram′ rom tape log′ s″ ram″ log″
+      → Turns calls plan s ram rom tape log (k + 1) s″ ram″ log″
 
 -- turns until the session is over or their number is spent
-pub record Plays (turns : ℕ) (calls : List ℕ) (limit : ℕ) (s : Session) (ram rom tape log : List ℕ) (s′ : Session) (ram′ log′ : List ℕ) : Type 0 where
+pub record Plays (turns : ℕ) (calls : List ℕ) (plan : Plan) (s : Session) (ram rom tape log : List ℕ) (s′ : Session) (ram′ log′ : List ℕ) : Type 0 where
   pub done : ℕ
-  pub is : Turns calls limit s ram rom tape log done s′ ram′ log′
+  pub is : Turns calls plan s ram rom tape log done s′ ram′ log′
   pub ends : (s′ .over ≡ true) ⊎ (done ≡ turns)

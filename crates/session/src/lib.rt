@@ -1,5 +1,6 @@
 // A session: runs and scheduled interrupt calls, one after the other, up to a limit of steps.
 use turns::Next;
+use turns::Plan;
 use turns::Session;
 use turns::after;
 use turns::answered;
@@ -15,13 +16,14 @@ fn interrupted(
     tape: &[u8],
     log: &[u8],
     call: u64,
+    plan: Plan,
 ) -> Session
-    ensures { λ r. ⌜ Called call s (now (ram .entry)) (now (rom .entry)) (now (tape .entry)) (now (log .entry)) r (now (ram .exit)) ⌝ }
+    ensures { λ r. ⌜ Called call plan s (now (ram .entry)) (now (rom .entry)) (now (tape .entry)) (now (log .entry)) r (now (ram .exit)) ⌝ }
 {
     let state = s.state;
     let vector = (call / 2 % 256) as u8;
     let a = calls::interrupt(state, ram, rom, tape, log, vector, call % 2 == 1);
-    answered(s, a)
+    answered(s, plan, a)
 }
 
 fn continued(
@@ -31,13 +33,20 @@ fn continued(
     tape: &[u8],
     log: &mut [u8],
     n: Next,
-    limit: u64,
+    plan: Plan,
 ) -> Session
-    ensures { λ r. ⌜ Continued n limit s (now (ram .entry)) (now (rom .entry)) (now (tape .entry)) (now (log .entry)) r (now (ram .exit)) (now (log .exit)) ⌝ }
+    ensures { λ r. ⌜ Continued n plan s (now (ram .entry)) (now (rom .entry)) (now (tape .entry)) (now (log .entry)) r (now (ram .exit)) (now (log .exit)) ⌝ }
 {
     let state = s.state;
-    let r = engine::run(state, ram, rom, tape, log, budget(s.steps, limit, n.due));
-    after(s, r, limit, n.waits)
+    let r = engine::run(
+        state,
+        ram,
+        rom,
+        tape,
+        log,
+        budget(s.steps, plan.limit, n.due, plan.single),
+    );
+    after(s, plan, r, n.waits)
 }
 
 // One turn: the next call where it is due, and else a run.
@@ -48,15 +57,15 @@ fn turn(
     tape: &[u8],
     log: &mut [u8],
     calls: &[u64],
-    limit: u64,
+    plan: Plan,
 ) -> Session
-    ensures { λ r. ⌜ Turn (now (calls .entry)) limit s (now (ram .entry)) (now (rom .entry)) (now (tape .entry)) (now (log .entry)) r (now (ram .exit)) (now (log .exit)) ⌝ }
+    ensures { λ r. ⌜ Turn (now (calls .entry)) plan s (now (ram .entry)) (now (rom .entry)) (now (tape .entry)) (now (log .entry)) r (now (ram .exit)) (now (log .exit)) ⌝ }
 {
     let n = upcoming(calls, s.made);
-    if is_called(s, n, limit) {
-        return interrupted(s, ram, rom, tape, log, n.call);
+    if is_called(s, n, plan.limit) {
+        return interrupted(s, ram, rom, tape, log, n.call, plan);
     }
-    continued(s, ram, rom, tape, log, n, limit)
+    continued(s, ram, rom, tape, log, n, plan)
 }
 
 // At most so many turns of a session that is not over.
@@ -67,10 +76,10 @@ pub fn play(
     tape: &[u8],
     log: &mut [u8],
     calls: &[u64],
-    limit: u64,
+    plan: Plan,
     turns: u64,
 ) -> Session
-    ensures { λ r. ⌜ Plays turns (now (calls .entry)) limit s (now (ram .entry)) (now (rom .entry)) (now (tape .entry)) (now (log .entry)) r (now (ram .exit)) (now (log .exit)) ⌝ }
+    ensures { λ r. ⌜ Plays turns (now (calls .entry)) plan s (now (ram .entry)) (now (rom .entry)) (now (tape .entry)) (now (log .entry)) r (now (ram .exit)) (now (log .exit)) ⌝ }
 {
     let mut stand = s;
     let mut done = 0;
@@ -78,7 +87,7 @@ pub fn play(
         if stand.over {
             return stand;
         }
-        stand = turn(stand, ram, rom, tape, log, calls, limit);
+        stand = turn(stand, ram, rom, tape, log, calls, plan);
         done = done + 1;
     }
     stand

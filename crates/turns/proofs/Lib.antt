@@ -1,1 +1,2 @@
 pub mod BudgetLaws
+pub mod AfterLaws

@@ -7,12 +7,16 @@ use lib.ListN.{length, getD}
 use Rattle.sheet.specs.declared.Bus.{Bus}
 use Rattle.sheet.specs.declared.State.{State}
 use Rattle.sheet.specs.Width.{pick}
+use Rattle.sheet.specs.Memory.{physical}
+use Rattle.sheet.specs.Registers.{PS, PC}
+use Rattle.sheet.specs.World.{withProgress, progressOf}
 use Rattle.turns.specs.declared.Session.{Session}
 use Rattle.turns.specs.declared.Next.{Next}
+use Rattle.turns.specs.declared.Plan.{Plan}
 
 -- before the first step
 abbrev pub begun : State → Session
-begun t = record { number = 0; state = t; steps = 0; cycles = 0; made = 0; refused = 0; over = false }
+begun t = record { number = 0; state = t; steps = 0; cycles = 0; made = 0; refused = 0; emptied = 0; over = false }
 
 -- ---- the schedule: a call is step x 512 + vector x 2 + 1 where it may be masked
 
@@ -32,38 +36,66 @@ maskableOf call = eqb (call % 2) 1
 unfoldable pub isCalled : Session → Next → ℕ → Bool
 isCalled s n limit = n .waits && (ltb (s .steps) limit && (leb (n .due) (s .steps) || s .state .marks .halted))
 
--- ---- a run goes to the limit or to the next call, in pieces of at most 65,535 steps
+-- ---- a run goes to the limit or to the next call, in pieces of one step, or of at most 65,535
 
-unfoldable pub budgetOf : ℕ → ℕ → ℕ → ℕ
-budgetOf steps limit due = min (min (limit - steps) (due - steps)) 65535
+unfoldable pub budgetOf : ℕ → ℕ → ℕ → Bool → ℕ
+budgetOf steps limit due single = min (min (limit - steps) (due - steps)) (pick single 1 65535)
 
 -- ---- what a turn makes of the stand; sums are modulo 2^64
 
 abbrev pub sum64 : ℕ → ℕ → ℕ
 sum64 a b = (a + b) % 2 ^ 64
 
-unfoldable pub answeredBy : Session → ℕ → State → Bus → Session
-answeredBy s number t n = record {
+-- an accepted call or a run that ends where the plan says ends the session
+unfoldable pub arrives : Plan → ℕ → State → Bool
+arrives plan number t = eqb number 0 && eqb (physical (getD (t .file) PS 0) (getD (t .file) PC 0)) (plan .until)
+
+unfoldable pub answeredBy : Session → Plan → ℕ → State → Bus → Session
+answeredBy s plan number t n = record {
   number = 0;
   state = t;
   steps = s .steps;
   cycles = sum64 (s .cycles) (n .cycles);
   made = sum64 (s .made) 1;
   refused = sum64 (s .refused) (pick (eqb number 0) 0 1);
-  over = false;
+  emptied = s .emptied;
+  over = arrives plan number t;
 }
 
 -- a halted machine waits for a call that is still to come
 unfoldable pub goesOn : ℕ → ℕ → ℕ → Bool → Bool
 goesOn number steps limit waits = (eqb number 0 && ltb steps limit) || (eqb number 8 && waits)
 
-unfoldable pub ranBy : Session → ℕ → State → ℕ → Bus → ℕ → Bool → Session
-ranBy s number t k n limit waits = record {
+unfoldable pub stoodBy : Session → Plan → ℕ → State → ℕ → Bus → Bool → Session
+stoodBy s plan number t k n waits = record {
   number = number;
   state = t;
   steps = sum64 (s .steps) k;
   cycles = sum64 (s .cycles) (n .cycles);
   made = s .made;
   refused = s .refused;
-  over = not (goesOn number (sum64 (s .steps) k) limit waits);
+  emptied = s .emptied;
+  over = arrives plan number t || not (goesOn number (sum64 (s .steps) k) (plan .limit) waits);
 }
+
+-- a log that nobody keeps is emptied where it is full: the count of steps since the last record stays, and so does the gap of the next one
+abbrev pub logEmptied : State → State
+logEmptied t = withProgress t (progressOf (t .progress .tape) 0 (t .progress .count))
+
+unfoldable pub isEmptied : Plan → ℕ → State → Bool
+isEmptied plan number t = not (plan .keeps) && (eqb number 6 && not (eqb (t .progress .log) 0))
+
+unfoldable pub emptiedBy : Session → State → ℕ → Bus → Session
+emptiedBy s t k n = record {
+  number = 0;
+  state = logEmptied t;
+  steps = sum64 (s .steps) k;
+  cycles = sum64 (s .cycles) (n .cycles);
+  made = s .made;
+  refused = s .refused;
+  emptied = sum64 (s .emptied) (t .progress .log);
+  over = false;
+}
+
+unfoldable pub ranBy : Session → Plan → ℕ → State → ℕ → Bus → Bool → Session
+ranBy s plan number t k n waits = pick (isEmptied plan number t) (emptiedBy s t k n) (stoodBy s plan number t k n waits)

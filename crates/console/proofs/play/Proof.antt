@@ -1,30 +1,30 @@
--- The measure is a number of pieces that no session uses up.
+-- The measure is a number of turns that no session uses up.
 use borrow.Author.Needs.{needs}
-use Rattle.session.specs.Turns.{Played}
-use Rattle.console.proofs.ResetLaws.{from-reset}
+use Prim.Native.Nat.{_-_, _≤_}
+use Rattle.session.specs.Turns.{Plays}
+use Rattle.console.proofs.PlayLaws.{from-reset, at-first, over-early, one-more, all-spent}
 use lib.ListN.{length}
-use Rattle.session.proofs.TurnLaws.{played-more, played-none}
 use mathlib.Core.Path.{_≡_}
 use Rattle.console.proofs.play.Statement.{statement}
 use Rattle.console.proofs.play.Tie as tie
 
 abbrev Inv-loop : tie.InvT-loop
-Inv-loop ram₀ rom tape log₀ schedule limit s₀ clock₀ pieces₀ ram log s clock pieces = (length ram ≡ length ram₀) × (length log ≡ length log₀) × Played schedule limit s₀ ram₀ rom tape log₀ s ram log
+Inv-loop ram₀ rom tape log₀ schedule plan w keys₀ counts₀ s₀ clock₀ pieces₀ ram log keys counts s clock pieces = (pieces ≤ 18446744073709551615) × (length ram ≡ length ram₀) × (length log ≡ length log₀) × Plays (18446744073709551615 - pieces) schedule plan s₀ ram₀ rom tape log₀ s ram log
 
 abbrev μ-loop : tie.MeasureT-loop
-μ-loop ram₀ rom tape log₀ schedule limit s₀ clock₀ pieces₀ ram log s clock pieces = pieces
+μ-loop ram₀ rom tape log₀ schedule plan w keys₀ counts₀ s₀ clock₀ pieces₀ ram log keys counts s clock pieces = pieces
 
 loop-holds : tie.Need-loop-holds Inv-loop μ-loop
-loop-holds c = (search needs, search needs, played-none)
+loop-holds c = (search needs, search needs, search needs, at-first 18446744073709551615)
 
 returns : tie.Need-returns Inv-loop μ-loop
-returns c = from-reset (c .before .before .before .before .before .reset .ensures) (c .before .before .before .before .begin .ensures) (c .before .before .loop .inv .2)
+returns c = from-reset (c .before .before .before .before .before .reset .ensures) (c .before .before .before .before .begin .ensures) (over-early (c .before .before .loop .inv .3) (c .if1 .taken))
 
 loop-again : tie.Need-loop-again Inv-loop μ-loop
-loop-again c = (search needs, search needs, played-more (c .before .before .before .before .before .before .before .before .before .before .loop .inv .2) (c .before .before .before .before .before .play .ensures))
+loop-again c = (search needs, search needs, search needs, search (one-more, needs))
 
 returns-2 : tie.Need-returns-2 Inv-loop μ-loop
-returns-2 c = from-reset (c .before .before .before .before .reset .ensures) (c .before .before .before .begin .ensures) (c .before .loop .inv .2)
+returns-2 c = from-reset (c .before .before .before .before .reset .ensures) (c .before .before .before .begin .ensures) (all-spent 18446744073709551615 _ (search needs) (c .before .loop .inv .3))
 
 pub play-spec : {M : Type 1} → statement M
 play-spec =

@@ -4,9 +4,7 @@ use Rattle.turns.proofs.budget.Statement.{statement}
 use Rattle.turns.proofs.budget.Tie as tie
 
 returns : tie.Need-returns
-returns c = budget-is _ _ _ (c .before .before .before .above .ensures) (c .before .before .above2 .ensures) (c .before .least .ensures) (c .least2 .ensures)
+returns c = search (budget-is, needs)
 
 pub budget-spec : {M : Type 1} → statement M
-budget-spec =
-    tie.close
-    (tie.spec (λ c κs. search needs) (λ c κs. search needs) (λ c κs. search needs) (λ c κs. search needs) (λ c. search needs) returns)
+budget-spec = tie.close (tie.spec (λ c κs. search needs) (λ c κs. search needs) (λ c κs. search needs) (λ c κs. search needs) (λ c κs. search needs) (λ c. search needs) returns)

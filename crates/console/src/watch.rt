@@ -1,0 +1,92 @@
+// What is seen of a session that goes by single steps: the lines of its trace, and how often the instruction at each address ran.
+use files::Output;
+use registers::PC;
+use registers::PS;
+use std::num::wrapping_add_u64;
+use std::num::wrapping_sub_u64;
+use turns::Session;
+
+// Whether addresses are counted, and the first and the last step that are printed.
+pub struct Watch {
+    pub counts: bool,
+    pub from: u64,
+    pub to: u64,
+}
+
+fn is_printed(w: Watch, step: u64) -> bool {
+    (w.from <= step) & (step <= w.to)
+}
+
+// Puts the words of the next step, where it is printed.
+pub fn put_words(line: &mut [u8; 80], s: Session, ram: &[u8], rom: &[u8], w: Watch) -> usize {
+    if !is_printed(w, wrapping_add_u64(s.steps, 1)) {
+        return 0;
+    }
+    let state = s.state;
+    trace::put_next(line, state, ram, rom)
+}
+
+fn print_step(line: [u8; 80], end: usize, s: Session, t: Session, log: &[u8]) {
+    let a = s.state;
+    let b = t.state;
+    let cycles = wrapping_sub_u64(t.cycles, s.cycles);
+    trace::write_step(line, end, t.steps, a, b, cycles, log);
+}
+
+fn print_call(call: u64, s: Session, t: Session, log: &[u8]) {
+    let a = s.state;
+    let b = t.state;
+    let cycles = wrapping_sub_u64(t.cycles, s.cycles);
+    trace::write_call(call / 2 % 256, t.refused != s.refused, a, b, cycles, log);
+}
+
+// The call that was made as the one of this number.
+fn made(schedule: &[u64], n: usize) -> u64 {
+    if n < schedule.len() {
+        return schedule[n];
+    }
+    0
+}
+
+fn print_turn(line: [u8; 80], end: usize, s: Session, t: Session, log: &[u8], schedule: &[u64]) {
+    if t.made != s.made {
+        print_call(made(schedule, s.made), s, t, log);
+    }
+    if t.steps != s.steps {
+        print_step(line, end, s, t, log);
+    }
+}
+
+// Sees what a turn did.
+pub fn note(
+    line: [u8; 80],
+    end: usize,
+    s: Session,
+    t: Session,
+    log: &[u8],
+    schedule: &[u64],
+    w: Watch,
+    keys: &mut [u32; 65536],
+    counts: &mut [u64; 65536],
+) {
+    if is_printed(w, wrapping_add_u64(s.steps, 1)) {
+        print_turn(line, end, s, t, log, schedule);
+    }
+    if w.counts & (t.steps != s.steps) {
+        let state = s.state;
+        let file = state.file;
+        trace::seen::count(keys, counts, file[PS], file[PC]);
+    }
+}
+
+// Writes the counts, where they are wanted.
+pub fn keep_counts(out: Output, keys: &[u32; 65536], counts: &[u64; 65536]) -> bool {
+    if !out.wanted {
+        return true;
+    }
+    if trace::seen::write_counts(out.fd, keys, counts) {
+        return true;
+    }
+    files::say(b"v30: cannot write the addresses\n");
+    false
+}
