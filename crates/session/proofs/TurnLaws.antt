@@ -14,7 +14,7 @@ use Rattle.engine.specs.Runs.{Runs}
 use Rattle.turns.specs.declared.Session.{Session}
 use Rattle.turns.specs.declared.Next.{Next}
 use Rattle.turns.specs.declared.Plan.{Plan}
-use Rattle.turns.specs.Stand.{nextOf, vectorOf, maskableOf, isCalled, budgetOf, answeredBy, ranBy}
+use Rattle.turns.specs.Stand.{comingOf, vectorOf, maskableOf, isCalled, budgetOf, answeredBy, ranBy}
 use Rattle.session.specs.Turns.{Called, called, Continued, continued, Turn, byCall, byRun, Turns, none, more, Plays}
 
 pub called-is : {call number : ℕ} {plan : Plan} {s r : Session} {ram rom tape log ram′ : List ℕ} {t : State} {n : Bus} → Interrupts (vectorOf call) (maskableOf call) (s .state) ram rom tape log number t ram′ n → r ≡ answeredBy s plan number t n → Called call plan s ram rom tape log r ram′
@@ -33,11 +33,11 @@ continued-is {budget} {number} {k} {plan} {next} {s} {r} {ram} {rom} {tape} {log
 decided : (plan : Plan) (s : Session) {next upcoming : Next} {due b : Bool} → next ≡ upcoming → due ≡ isCalled s next (plan .limit) → due ≡ b → isCalled s upcoming (plan .limit) ≡ b
 decided plan s e f y = ap (λ (x : Next). isCalled s x (plan .limit)) (sym e) ∙ sym f ∙ y
 
-pub turn-by-call : {plan : Plan} {next : Next} {due : Bool} {calls : List ℕ} {s r : Session} {ram rom tape log ram′ : List ℕ} → next ≡ nextOf calls (s .made) → due ≡ isCalled s next (plan .limit) → due ≡ true → Called (next .call) plan s ram rom tape log r ram′ → Turn calls plan s ram rom tape log r ram′ log
+pub turn-by-call : {plan : Plan} {next : Next} {due : Bool} {calls : List ℕ} {s r : Session} {ram rom tape log ram′ : List ℕ} → next ≡ comingOf s calls → due ≡ isCalled s next (plan .limit) → due ≡ true → Called (next .call) plan s ram rom tape log r ram′ → Turn calls plan s ram rom tape log r ram′ log
 turn-by-call {plan} {next} {due} {calls} {s} {r} {ram} {rom} {tape} {log} {ram′} e f y h =
     byCall (decided plan s e f y) (subst (λ (x : Next). Called (x .call) plan s ram rom tape log r ram′) e h)
 
-pub turn-by-run : {plan : Plan} {next : Next} {due : Bool} {calls : List ℕ} {s r : Session} {ram rom tape log ram′ log′ : List ℕ} → next ≡ nextOf calls (s .made) → due ≡ isCalled s next (plan .limit) → due ≡ false → Continued next plan s ram rom tape log r ram′ log′ → Turn calls plan s ram rom tape log r ram′ log′
+pub turn-by-run : {plan : Plan} {next : Next} {due : Bool} {calls : List ℕ} {s r : Session} {ram rom tape log ram′ log′ : List ℕ} → next ≡ comingOf s calls → due ≡ isCalled s next (plan .limit) → due ≡ false → Continued next plan s ram rom tape log r ram′ log′ → Turn calls plan s ram rom tape log r ram′ log′
 turn-by-run {plan} {next} {due} {calls} {s} {r} {ram} {rom} {tape} {log} {ram′} {log′} e f y h =
     byRun (decided plan s e f y) (subst (λ (x : Next). Continued x plan s ram rom tape log r ram′ log′) e h)
 

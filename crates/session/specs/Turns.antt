@@ -13,7 +13,7 @@ use Rattle.sheet.specs.Run.{runs, runReported, ranReport}
 use Rattle.turns.specs.declared.Session.{Session}
 use Rattle.turns.specs.declared.Next.{Next}
 use Rattle.turns.specs.declared.Plan.{Plan}
-use Rattle.turns.specs.Stand.{nextOf, vectorOf, maskableOf, isCalled, budgetOf, answeredBy, ranBy}
+use Rattle.turns.specs.Stand.{comingOf, vectorOf, maskableOf, isCalled, budgetOf, answeredBy, ranBy}
 
 -- an interrupt call
 pub data Called (call : ℕ) (plan : Plan) (s : Session) (ram rom tape log : List ℕ) : Session → List ℕ → Type 0 where
@@ -29,12 +29,12 @@ pub data Continued (next : Next) (plan : Plan) (s : Session) (ram rom tape log :
 
 pub data Turn (calls : List ℕ) (plan : Plan) (s : Session) (ram rom tape log : List ℕ) : Session → List ℕ → List ℕ → Type 0 where
   byCall : {s′ : Session} {ram′ : List ℕ}
-      → isCalled s (nextOf calls (s .made)) (plan .limit) ≡ true
-      → Called (nextOf calls (s .made) .call) plan s ram rom tape log s′ ram′
+      → isCalled s (comingOf s calls) (plan .limit) ≡ true
+      → Called (comingOf s calls .call) plan s ram rom tape log s′ ram′
       → Turn calls plan s ram rom tape log s′ ram′ log
   byRun : {s′ : Session} {ram′ log′ : List ℕ}
-      → isCalled s (nextOf calls (s .made)) (plan .limit) ≡ false
-      → Continued (nextOf calls (s .made)) plan s ram rom tape log s′ ram′ log′
+      → isCalled s (comingOf s calls) (plan .limit) ≡ false
+      → Continued (comingOf s calls) plan s ram rom tape log s′ ram′ log′
       → Turn calls plan s ram rom tape log s′ ram′ log′
 
 -- so many turns, none of them of a session that was over

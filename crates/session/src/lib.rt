@@ -61,7 +61,7 @@ fn turn(
 ) -> Session
     ensures { λ r. ⌜ Turn (now (calls .entry)) plan s (now (ram .entry)) (now (rom .entry)) (now (tape .entry)) (now (log .entry)) r (now (ram .exit)) (now (log .exit)) ⌝ }
 {
-    let n = upcoming(calls, s.made);
+    let n = upcoming(calls, s);
     if is_called(s, n, plan.limit) {
         return interrupted(s, ram, rom, tape, log, n.call, plan);
     }

@@ -1,2 +1,3 @@
 pub mod BudgetLaws
 pub mod AfterLaws
+pub mod ComingLaws

@@ -14,6 +14,10 @@ use Rattle.turns.specs.declared.Session.{Session}
 use Rattle.turns.specs.declared.Next.{Next}
 use Rattle.turns.specs.declared.Plan.{Plan}
 
+-- sums are modulo 2^64
+abbrev pub sum64 : ℕ → ℕ → ℕ
+sum64 a b = (a + b) % 2 ^ 64
+
 -- before the first step
 abbrev pub begun : State → Session
 begun t = record { number = 0; state = t; steps = 0; cycles = 0; made = 0; refused = 0; emptied = 0; over = false }
@@ -25,6 +29,13 @@ nextOf calls made =
     pick (ltb made (length calls))
     (record { waits = true; due = getD calls made 0 / 512; call = getD calls made 0 })
     (record { waits = false; due = 18446744073709551615; call = 0 })
+
+abbrev pub deferred : Bool → Session → Next → Next
+deferred held s n = pick held (record { waits = n .waits; due = sum64 (s .steps) 1; call = n .call }) n
+
+-- the next call: one that would be answered 13, after a segment load, is made after the next step
+unfoldable pub comingOf : Session → List ℕ → Next
+comingOf s calls = deferred (s .state .marks .loaded && leb (nextOf calls (s .made) .due) (s .steps)) s (nextOf calls (s .made))
 
 abbrev pub vectorOf : ℕ → ℕ
 vectorOf call = call / 2 % 256
@@ -41,10 +52,7 @@ isCalled s n limit = n .waits && (ltb (s .steps) limit && (leb (n .due) (s .step
 unfoldable pub budgetOf : ℕ → ℕ → ℕ → Bool → ℕ
 budgetOf steps limit due single = min (min (limit - steps) (due - steps)) (pick single 1 65535)
 
--- ---- what a turn makes of the stand; sums are modulo 2^64
-
-abbrev pub sum64 : ℕ → ℕ → ℕ
-sum64 a b = (a + b) % 2 ^ 64
+-- ---- what a turn makes of the stand
 
 -- an accepted call or a run that ends where the plan says ends the session
 unfoldable pub arrives : Plan → ℕ → State → Bool

@@ -12,7 +12,7 @@ ghost use mathlib.Core.Path.{_≡_};
 ghost use Prim.Native.Nat.{_-_, _<_, min};
 ghost use Rattle.sheet.specs.Width.{pick};
 ghost use lib.Dec.{eqb};
-ghost use Rattle.turns.specs.Stand.{begun, nextOf, isCalled, budgetOf, arrives, answeredBy, goesOn, stoodBy, logEmptied, isEmptied, emptiedBy, ranBy};
+ghost use Rattle.turns.specs.Stand.{begun, nextOf, comingOf, isCalled, budgetOf, arrives, answeredBy, goesOn, stoodBy, logEmptied, isEmptied, emptiedBy, ranBy};
 
 // How a session is played: its limit of steps, whether its runs are single steps, the address that ends it (1048576 is none), and whether
 // the log is kept.
@@ -96,7 +96,7 @@ pub struct Next {
     pub call: u64,
 }
 
-pub fn upcoming(calls: &[u64], made: usize) -> Next
+fn scheduled(calls: &[u64], made: usize) -> Next
     ensures { λ r. ⌜ r ≡ nextOf (now (calls .entry)) made ⌝ }
 {
     if made < calls.len() {
@@ -112,6 +112,22 @@ pub fn upcoming(calls: &[u64], made: usize) -> Next
         due: u64::MAX,
         call: 0,
     }
+}
+
+// A call that would be answered 13, after a segment load, is made after the next step.
+pub fn upcoming(calls: &[u64], s: Session) -> Next
+    ensures { λ r. ⌜ r ≡ comingOf s (now (calls .entry)) ⌝ }
+{
+    let n = scheduled(calls, s.made);
+    let state = s.state;
+    if state.marks.loaded & (n.due <= s.steps) {
+        return Next {
+            waits: n.waits,
+            due: wrapping_add_u64(s.steps, 1),
+            call: n.call,
+        };
+    }
+    n
 }
 
 // Whether the next call is made before the next step: it is due, or the machine is halted and nothing else will wake it.

@@ -1,16 +1,13 @@
-use borrow.Author.Tests.{le-ltb, lt-ltb}
-use Rattle.turns.specs.Stand.{nextOf}
+use Rattle.turns.proofs.ComingLaws.{as-scheduled, put-off}
 use borrow.Author.Needs.{needs}
 use Rattle.turns.proofs.upcoming.Statement.{statement}
 use Rattle.turns.proofs.upcoming.Tie as tie
 
 returns : tie.Need-returns
-unfolding nextOf
-returns c = rw (lt-ltb _ _ (c .before .if1 .taken))
+returns c = search (put-off, needs)
 
 returns-2 : tie.Need-returns-2
-unfolding nextOf
-returns-2 c = rw (le-ltb _ _ (c .if1 .left))
+returns-2 c = search (as-scheduled, needs)
 
 pub upcoming-spec : {M : Type 1} → statement M
-upcoming-spec = tie.close (tie.spec (λ c. search needs) (λ c. search needs) returns returns-2)
+upcoming-spec = tie.close (tie.spec (λ c κs. search needs) (λ c κs. search needs) returns returns-2)
