@@ -66,3 +66,18 @@ pub fn bare(reading: &str) -> Option<String> {
         None
     }
 }
+
+#[cfg(test)]
+mod tests {
+    use super::*;
+
+    #[test]
+    fn a_text_without_its_additions() {
+        let reading = "A reading of x\n\n   | *  FFFFC EBFE               BR FFFFC ; Go back to FFFFC.\n\
+                       \x20      ~FFFFD FE                 DB FE ; Not of the listing.\n\
+                       \x20       FFFFE  90 90  ..\n        FFFFE 90                 NOP\n               and the same 1 times more\n";
+        let wanted = "FFFFC EBFE               BR FFFFC\nFFFFE 90                 NOP\nFFFFF 90                 NOP\n";
+        assert_eq!(bare(reading).as_deref(), Some(wanted));
+        assert_eq!(bare(wanted), None, "a listing is no reading");
+    }
+}

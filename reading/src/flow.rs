@@ -87,3 +87,50 @@ impl Flow {
             .is_some_and(|all| all.iter().any(|(kind, _)| *kind == Kind::Calls))
     }
 }
+
+#[cfg(test)]
+mod tests {
+    use super::*;
+    use crate::line::line;
+
+    #[test]
+    fn where_the_program_goes() {
+        let ways_of =
+            |words: &str| ways(&line(&format!("FFF10 9000               {words}")).unwrap());
+        let on = (Kind::Falls, 0xFFF12);
+        assert_eq!(ways_of("NOP"), [on]);
+        assert_eq!(ways_of("HALT"), [on]);
+        assert_eq!(ways_of("BRK 21"), [on]);
+        assert_eq!(ways_of("BE FFF20"), [on, (Kind::Branches, 0xFFF20)]);
+        assert_eq!(ways_of("BR FFF20"), [(Kind::Branches, 0xFFF20)]);
+        assert_eq!(ways_of("BR FFF0:0030"), [(Kind::Branches, 0xFFF30)]);
+        assert_eq!(ways_of("CALL FFF20"), [on, (Kind::Calls, 0xFFF20)]);
+        assert_eq!(ways_of("CALL BW"), [on]);
+        for words in [
+            "BR BW",
+            "BR DWORD DS0:[IX]",
+            "RET",
+            "RET 0004",
+            "RETI",
+            "DB FF",
+        ] {
+            assert_eq!(ways_of(words), [], "{words}");
+        }
+    }
+
+    #[test]
+    fn what_is_untold() {
+        for (words, untold) in [
+            ("BR BW", true),
+            ("CALL WORD DS0:[0400]", true),
+            ("BR FFF20", false),
+            ("RET", false),
+        ] {
+            assert_eq!(
+                is_untold(&line(&format!("FFF10 9000               {words}")).unwrap()),
+                untold,
+                "{words}"
+            );
+        }
+    }
+}

@@ -20,9 +20,10 @@ pub struct Listing {
 fn printed(bytes: &[u8], lister: &mut Lister) -> Result<Vec<Line>, String> {
     let text = lister(bytes)?;
     let lines = listing(&text).map_err(|n| format!("line {n} of the listing is not understood"))?;
-    match lines.iter().map(|line| line.bytes.len()).sum::<usize>() == bytes.len() {
-        true => Ok(lines),
-        false => Err("the listing is not that of the image".to_string()),
+    if lines.iter().flat_map(|line| &line.bytes).eq(bytes) {
+        Ok(lines)
+    } else {
+        Err("the listing is not that of the image".to_string())
     }
 }
 
@@ -82,5 +83,46 @@ impl Listing {
             }
         }
         Ok(self.at(address))
+    }
+}
+
+#[cfg(test)]
+mod tests {
+    use super::*;
+
+    const WHOLE: &str = "FFFFC B8EB00             MOV AW,00EB\nFFFFF 90                 NOP\n";
+
+    #[test]
+    fn lines_from_inside_of_a_line() {
+        let asked = std::cell::RefCell::new(Vec::new());
+        let mut lister = |image: &[u8]| {
+            asked.borrow_mut().push(image.len());
+            Ok(match image.len() {
+                4 => WHOLE.to_string(),
+                _ => {
+                    "FFFFD EB00               BR FFFFF\nFFFFF 90                 NOP\n".to_string()
+                }
+            })
+        };
+        let mut listing = Listing::of(vec![0xB8, 0xEB, 0x00, 0x90], &mut lister).unwrap();
+        let found = listing.find(0xFFFFD, &mut lister).unwrap().unwrap();
+        assert_eq!(found.text, "FFFFD EB00               BR FFFFF");
+        assert!(!listing.is_own(0xFFFFD) && listing.is_own(0xFFFFF));
+        assert!(listing.find(0xFFFFD, &mut lister).unwrap().is_some());
+        assert!(
+            listing.find(0xFFFFB, &mut lister).unwrap().is_none(),
+            "before the image"
+        );
+        assert_eq!(*asked.borrow(), [4, 3], "asked once for each");
+    }
+
+    #[test]
+    fn a_lister_that_tells_of_another_image() {
+        let mut lister = |_: &[u8]| Ok(WHOLE.to_string());
+        let said = Listing::of(vec![0xB8, 0xEB, 0x01, 0x90], &mut lister).err();
+        assert_eq!(
+            said.as_deref(),
+            Some("the listing is not that of the image")
+        );
     }
 }
