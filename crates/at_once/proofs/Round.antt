@@ -1,7 +1,7 @@
 -- Turning round: what many places come to.
 use mathlib.Core.Path.{_≡_, refl, sym, ap, _∙_}
-use Prim.Native.Nat.{ℕ, zero, suc, pred, _+_, _-_, _*_, _/_, _%_, _^_, _≤_, _<_}
-use native.Mathlib.Nat.{add-zero, zero-add, add-suc, suc-add, add-comm, mul-one, mul-assoc, mul-comm, pow-suc, div-one, mod-one, mod-lt, mod-add-div, div-add-mod, zero-mul, one-mul, mul-le-mul-left, suc-mul, mod-eq-of-lt, div-eq-of-lt, div-div-eq-div-mul, mul-le-mul-right}
+use Prim.Native.Nat.{ℕ, zero, suc, _+_, _-_, _*_, _/_, _%_, _^_, _≤_, _<_}
+use native.Mathlib.Nat.{add-zero, zero-add, add-suc, suc-add, add-comm, mul-one, mul-assoc, pow-suc, div-one, mod-one, mod-lt, mod-add-div, div-add-mod, zero-mul, one-mul, mul-le-mul-left, suc-mul, mod-eq-of-lt, div-eq-of-lt, div-div-eq-div-mul, mul-le-mul-right}
 use native.Mathlib.Numerals.{one-add}
 use native.Mathlib.Omega.{arith}
 use lib.Pow.{pow-pos, pow-mono, pow-add, split, shl-lt, shr-le, shr-lt, mod-pow-add}

@@ -2,7 +2,7 @@
 use mathlib.Core.Path.{_≡_, refl, sym, ap, _∙_}
 use mathlib.Core.Bool.{Bool, true, false}
 use Prim.Native.Nat.{ℕ, zero, suc, min, _+_, _-_, _*_, _/_, _%_, _^_, _≤_, _<_}
-use native.Mathlib.Nat.{add-comm, mul-comm, mul-assoc, mul-one, mul-sub, mul-le-mul-left, mod-eq-of-lt, pow-suc, mul-mod-left, mul-le-mul-right, div-lt-iff-lt-mul, div-div-eq-div-mul, add-mul-div-right}
+use native.Mathlib.Nat.{mul-assoc, mul-one, mul-sub, mul-le-mul-left, mod-eq-of-lt, pow-suc, mul-mod-left, mul-le-mul-right, div-lt-iff-lt-mul, div-div-eq-div-mul, add-mul-div-right}
 use native.Mathlib.Omega.{arith}
 use borrow.Author.Tests.{leb-true, leb-false}
 use lib.Dec.{leb}

@@ -131,7 +131,7 @@ rol-step : (w : Bool) (z : ℕ) (t : Turn) → z < modOf w → oneRight (widthOf
 unfolding onePlace comesIn toLeft wrapOf signOf
 rol-step w z t h e = rw (← e, turned-bit w z, rol-sign w (odd z) z h refl) (sym (rol-value w (odd z) z h refl))
 
-rol-back : (w : Bool) (n y : ℕ) (t : Turn) → y < modOf w → rightBy (widthOf w) n y ≡ t .value → manyPlaces Rol w n t .value ≡ y
+pub rol-back : (w : Bool) (n y : ℕ) (t : Turn) → y < modOf w → rightBy (widthOf w) n y ≡ t .value → manyPlaces Rol w n t .value ≡ y
 unfolding manyPlaces rightBy
 rol-back w zero y t h e = sym e
 rol-back w (suc n) y t h e =
@@ -194,7 +194,7 @@ unfolding manyPlaces
 many-within w zero t h = h
 many-within w (suc n) t h = one-within w (manyPlaces Rolc w n t)
 
-rolc-back : (w : Bool) (n y : ℕ) (t : Turn) → y < 2 * modOf w → t .value < modOf w → rightBy (suc (widthOf w)) n y ≡ joined w t → joined w (manyPlaces Rolc w n t) ≡ y
+pub rolc-back : (w : Bool) (n y : ℕ) (t : Turn) → y < 2 * modOf w → t .value < modOf w → rightBy (suc (widthOf w)) n y ≡ joined w t → joined w (manyPlaces Rolc w n t) ≡ y
 unfolding manyPlaces rightBy
 rolc-back w zero y t h l e = sym e
 rolc-back w (suc n) y t h l e =

@@ -10,13 +10,13 @@ use lib.Dec.{eqb, leb}
 use lib.Pow.{pow-pos, suc-ones, shr-le}
 use Rattle.at_once.specs.AtOnce.{downBy, oneRight, rightBy}
 use Rattle.at_once.proofs.Scaled.{down-more}
-use Rattle.sheet.specs.declared.Shift.{Shift}
 use Rattle.sheet.specs.declared.Shift.the-variants.{Ror, Rorc, Shr, Shra}
 use Rattle.sheet.specs.declared.Turn.{Turn}
 use Rattle.sheet.specs.Width.{pick, modOf, halfOf, signOf, odd}
 use Rattle.sheet.specs.Shift.{turn, comesIn, toRight, onePlace, manyPlaces}
 use Rattle.shift_at_once.specs.BeforeLast.{BeforeLast, widthOf, joined, partOf}
 use Rattle.shift_at_once.proofs.Joined.{part-joined}
+use Rattle.shift_at_once.proofs.Places.{shr-value}
 
 -- ---- SHR and SHRA: halved, with 0 or the sign coming in above
 
@@ -53,14 +53,12 @@ sign-down w false n x e =
     lt-leb (halfOf w) _ (rw (none-above n x) (lt-of-le-of-lt (shr-le x n) l))
 
 shr-down : (w : Bool) (n : ℕ) (t : Turn) → manyPlaces Shr w n t .value ≡ downBy n 0 (t .value)
-unfolding manyPlaces onePlace comesIn toRight
-shr-down w zero t = none-yet 0 (t .value)
-shr-down w (suc n) t = rw (shr-down w n t) (halved w false n (t .value))
+shr-down w n t = shr-value w n t ∙ sym (none-above n (t .value))
 
-shra-down : (w s : Bool) (n : ℕ) (t : Turn) → signOf w (t .value) ≡ s → manyPlaces Shra w n t .value ≡ downBy n (above w s) (t .value)
+pub shra-value : (w s : Bool) (n : ℕ) (t : Turn) → signOf w (t .value) ≡ s → manyPlaces Shra w n t .value ≡ downBy n (above w s) (t .value)
 unfolding manyPlaces onePlace comesIn toRight signOf
-shra-down w s zero t e = none-yet (above w s) (t .value)
-shra-down w s (suc n) t e = rw (shra-down w s n t e, sign-down w s n (t .value) e) (halved w s n (t .value))
+shra-value w s zero t e = none-yet (above w s) (t .value)
+shra-value w s (suc n) t e = rw (shra-value w s n t e, sign-down w s n (t .value) e) (halved w s n (t .value))
 
 pub shr-last : (w : Bool) (m : ℕ) (t r : Turn) → r .value ≡ downBy m 0 (t .value) → BeforeLast Shr w m t r
 unfolding manyPlaces onePlace comesIn
@@ -68,7 +66,7 @@ shr-last w m t r e = record { last = rw (e, shr-down w m t) }
 
 pub shra-last : (w : Bool) (m : ℕ) (t r : Turn) → r .value ≡ downBy m (pick (signOf w (t .value)) (modOf w) 0) (t .value) → BeforeLast Shra w m t r
 unfolding manyPlaces onePlace comesIn
-shra-last w m t r e = record { last = rw (e, shra-down w (signOf w (t .value)) m t refl) }
+shra-last w m t r e = record { last = rw (e, shra-value w (signOf w (t .value)) m t refl) }
 
 -- ---- ROR: turned round
 
@@ -79,7 +77,7 @@ parity false y h e =
     let z : y % 2 ≡ 0 = omega arith in
     rw z (omega arith)
 
-ror-turned : (w : Bool) (n : ℕ) (t : Turn) → manyPlaces Ror w n t .value ≡ rightBy (widthOf w) n (t .value)
+pub ror-turned : (w : Bool) (n : ℕ) (t : Turn) → manyPlaces Ror w n t .value ≡ rightBy (widthOf w) n (t .value)
 unfolding manyPlaces onePlace comesIn toRight rightBy oneRight
 ror-turned w zero t = refl
 ror-turned true (suc n) t = rw (ror-turned true n t) (parity _ (rightBy 16 n (t .value)) 32768 refl)
@@ -111,7 +109,7 @@ unfolding joined oneRight
 rorc-one true t = rw (rorc-by true t) (parity _ (joined true t) 65536 refl)
 rorc-one false t = rw (rorc-by false t) (parity _ (joined false t) 256 refl)
 
-rorc-turned : (w : Bool) (n : ℕ) (t : Turn) → joined w (manyPlaces Rorc w n t) ≡ rightBy (suc (widthOf w)) n (joined w t)
+pub rorc-turned : (w : Bool) (n : ℕ) (t : Turn) → joined w (manyPlaces Rorc w n t) ≡ rightBy (suc (widthOf w)) n (joined w t)
 unfolding manyPlaces rightBy
 rorc-turned w zero t = refl
 rorc-turned w (suc n) t = rorc-one w (manyPlaces Rorc w n t) ∙ ap (oneRight (suc (widthOf w))) (rorc-turned w n t)
