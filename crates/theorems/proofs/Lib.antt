@@ -35,3 +35,4 @@ pub mod LogCode
 pub mod Outcomes
 pub mod RunsFirst
 pub mod Borrow
+pub mod LogSmall
