@@ -17,7 +17,7 @@ fn print_words(fd: i32, number: u8) -> bool {
         ),
         6 => write_all(
             fd,
-            b"the log is full; run it without a log, or in parts by --steps\n",
+            b"the log is full; --steps or --until stop earlier, and without --log it goes on\n",
         ),
         8 => write_all(fd, b"the machine is halted\n"),
         _ => write_all(fd, b"\n"),

@@ -217,19 +217,22 @@ pub fn put_next(line: &mut [u8; 80], s: State, ram: &[u8], rom: &[u8]) -> usize 
     put_there(line, WORDS, file[PS], file[PC], ram, rom)
 }
 
-fn write_changes(s: State, t: State) -> bool {
-    let mut line = blank();
+// A line: its words, and behind them what a step or a call changed. Where that is nothing no spaces stand at the end.
+fn write_line(words: [u8; 80], end: usize, s: State, t: State, cycles: u64, log: &[u8]) -> bool {
     let a = s.file;
     let b = t.file;
-    let n = put_registers(&mut line, 0, a, b);
-    write(STDOUT_FILENO, line, n)
-}
-
-fn write_effects(s: State, t: State, cycles: u64, log: &[u8]) -> bool {
-    let mut line = blank();
-    let n = put_effects(&mut line, 0, s, t, cycles, log);
-    let end = put_byte(&mut line, n, b'\n');
-    write(STDOUT_FILENO, line, end)
+    let mut changes = blank();
+    let n = put_registers(&mut changes, 0, a, b);
+    let mut effects = blank();
+    let m = put_effects(&mut effects, 0, s, t, cycles, log);
+    let stop = put_byte(&mut effects, m, b'\n');
+    let pad = if (n == 0) & (m == 0) {
+        end
+    } else {
+        column(end)
+    };
+    write(STDOUT_FILENO, words, pad)
+        & (write(STDOUT_FILENO, changes, n) & write(STDOUT_FILENO, effects, stop))
 }
 
 // The line of a step, whose words were put before it was done.
@@ -244,8 +247,7 @@ pub fn write_step(
 ) -> bool {
     let mut line = words;
     put_decimal(&mut line, begin(step), step);
-    write(STDOUT_FILENO, line, column(end))
-        & (write_changes(s, t) & write_effects(s, t, cycles, log))
+    write_line(line, end, s, t, cycles, log)
 }
 
 fn put_call(line: &mut [u8; 80], vector: u64, refused: bool) -> usize {
@@ -261,8 +263,7 @@ fn put_call(line: &mut [u8; 80], vector: u64, refused: bool) -> usize {
 pub fn write_call(vector: u64, refused: bool, s: State, t: State, cycles: u64, log: &[u8]) -> bool {
     let mut line = blank();
     let end = put_call(&mut line, vector, refused);
-    write(STDOUT_FILENO, line, column(end))
-        & (write_changes(s, t) & write_effects(s, t, cycles, log))
+    write_line(line, end, s, t, cycles, log)
 }
 
 // ---- the end of a session
