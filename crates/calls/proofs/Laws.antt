@@ -17,6 +17,7 @@ use Rattle.sheet.specs.Traps.{trap}
 use Rattle.sheet.specs.Step.{placesGood, fits, sound, checked, refusal, interrupting, interruptBy, interrupt, interruptReport}
 use Rattle.sheet.specs.Contract.{seen, exec, OnMemory, report, reportOf}
 use Rattle.sheet.proofs.Rules.{seq-last, ends-halted}
+use Rattle.tally.specs.Sums.{Free}
 use Rattle.calls.specs.Calls.{checkNumber, Accepts, Interrupts}
 
 module _ (s : State) (ram rom tape log : List ℕ) where
@@ -75,9 +76,9 @@ module _ (v : ℕ) (m : Bool) (s : State) (ram rom tape log : List ℕ) (number 
   w : World
   w = world s ram rom tape log
 
-  pub refused-first : (number ≡ 0 → ⊥) → Interrupts v m s ram rom tape log number s ram nothing
+  pub refused-first : (n : Bus) → (number ≡ 0 → ⊥) → Free n → Interrupts v m s ram rom tape log number s ram n
   unfolding w interruptReport interrupt interruptBy
-  refused-first z = record { most = zero-le; is = ap (λ (o : Outcome Unit). reportOf w (seen o)) (checked-refused w refusal _ number e z) }
+  refused-first n z k = rw (k .is) (record { most = zero-le; is = ap (λ (o : Outcome Unit). reportOf w (seen o)) (checked-refused w refusal _ number e z) })
 
   -- what is reported past them
   accepted : (i : Bool) → number ≡ 0 → (m && not (flagOf (pswOf s) IE)) ≡ i → interruptReport v m w ≡ pick i (report 7 w nothing) (reportOf w (exec (interrupting v) w))
@@ -89,9 +90,9 @@ module _ (v : ℕ) (m : Bool) (s : State) (ram rom tape log : List ℕ) (number 
       go true c = rw c
       go false c = rw c
 
-  pub refused-masked : (ie : Bool) → number ≡ 0 → ie ≡ flagOf (getD (s .file) PSW 0) IE → (m && not ie) ≡ true → Interrupts v m s ram rom tape log 7 s ram nothing
+  pub refused-masked : (ie : Bool) (n : Bus) → number ≡ 0 → ie ≡ flagOf (getD (s .file) PSW 0) IE → (m && not ie) ≡ true → Free n → Interrupts v m s ram rom tape log 7 s ram n
   unfolding w
-  refused-masked ie z q c = record { most = zero-le; is = accepted true z (rw q at c) }
+  refused-masked ie n z q c k = rw (k .is) (record { most = zero-le; is = accepted true z (rw q at c) })
 
   pub taken : (ie : Bool) (r : ℕ) (s′ : State) (ram′ : List ℕ) (n : Bus) → number ≡ 0 → ie ≡ flagOf (getD (s .file) PSW 0) IE → (m && not ie) ≡ false → Accepts v s ram rom r s′ ram′ n
       → Interrupts v m s ram rom tape log r s′ ram′ n

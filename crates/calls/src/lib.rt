@@ -94,7 +94,7 @@ pub fn interrupt(
         return Answer {
             number,
             state: s,
-            bus: Bus { cycles: 0 },
+            bus: tally::none(),
         };
     }
     let ie = flags::ie(s.file[PSW]);
@@ -102,7 +102,7 @@ pub fn interrupt(
         return Answer {
             number: 7,
             state: s,
-            bus: Bus { cycles: 0 },
+            bus: tally::none(),
         };
     }
     accept(s, ram, rom, vector)

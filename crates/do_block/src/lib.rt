@@ -11,7 +11,8 @@ ghost use Rattle.sheet.specs.declared.Primitive.the-variants as sheet;
 ghost use Rattle.sheet.specs.Act.{affect};
 ghost use Rattle.sheet.specs.Arithmetic.{difference};
 ghost use Rattle.sheet.specs.Block as tree;
-ghost use Rattle.sheet.specs.Contract.{OnFile, OnMemory};
+ghost use Rattle.sheet.specs.Contract.{OnFile};
+ghost use Rattle.tally.specs.Lent.{Does};
 ghost use Rattle.do_block.specs.Portless.{primitiveOf};
 
 // The flags of a comparison.
@@ -23,32 +24,28 @@ fn compare(word: bool, file: &mut [u16; 14], a: u16, b: u16)
 }
 
 fn movbk(file: &mut [u16; 14], ram: &mut [u8], rom: &[u8], word: bool, seg: u8) -> Bus
-    ensures { λ r. ⌜ OnMemory Unit (tree.primitive sheet.Movbk word seg) (now (file .entry)) (now (ram .entry)) (now (rom .entry)) tt (now (file .exit)) (now (ram .exit)) r 4 ⌝ }
+    ensures { λ r. ⌜ Does (tree.primitive sheet.Movbk word seg) file ram rom r 4 ⌝ }
 {
     let v = elements::source_element(word, file, ram, rom, seg);
     let b = elements::set_target(word, file, ram, rom, v.value);
     elements::step_ix(word, file);
     elements::step_iy(word, file);
-    Bus {
-        cycles: v.bus.cycles + b.cycles,
-    }
+    tally::both(v.bus, b)
 }
 
 fn cmpbk(file: &mut [u16; 14], ram: &mut [u8], rom: &[u8], word: bool, seg: u8) -> Bus
-    ensures { λ r. ⌜ OnMemory Unit (tree.primitive sheet.Cmpbk word seg) (now (file .entry)) (now (ram .entry)) (now (rom .entry)) tt (now (file .exit)) (now (ram .exit)) r 4 ⌝ }
+    ensures { λ r. ⌜ Does (tree.primitive sheet.Cmpbk word seg) file ram rom r 4 ⌝ }
 {
     let a = elements::source_element(word, file, ram, rom, seg);
     let b = elements::target_element(word, file, ram, rom);
     compare(word, file, a.value, b.value);
     elements::step_ix(word, file);
     elements::step_iy(word, file);
-    Bus {
-        cycles: a.bus.cycles + b.bus.cycles,
-    }
+    tally::both(a.bus, b.bus)
 }
 
 fn cmpm(file: &mut [u16; 14], ram: &mut [u8], rom: &[u8], word: bool, seg: u8) -> Bus
-    ensures { λ r. ⌜ OnMemory Unit (tree.primitive sheet.Cmpm word seg) (now (file .entry)) (now (ram .entry)) (now (rom .entry)) tt (now (file .exit)) (now (ram .exit)) r 4 ⌝ }
+    ensures { λ r. ⌜ Does (tree.primitive sheet.Cmpm word seg) file ram rom r 4 ⌝ }
 {
     let a = registers::reg(word, file, 0);
     let b = elements::target_element(word, file, ram, rom);
@@ -58,7 +55,7 @@ fn cmpm(file: &mut [u16; 14], ram: &mut [u8], rom: &[u8], word: bool, seg: u8) -
 }
 
 fn ldm(file: &mut [u16; 14], ram: &mut [u8], rom: &[u8], word: bool, seg: u8) -> Bus
-    ensures { λ r. ⌜ OnMemory Unit (tree.primitive sheet.Ldm word seg) (now (file .entry)) (now (ram .entry)) (now (rom .entry)) tt (now (file .exit)) (now (ram .exit)) r 4 ⌝ }
+    ensures { λ r. ⌜ Does (tree.primitive sheet.Ldm word seg) file ram rom r 4 ⌝ }
 {
     let v = elements::source_element(word, file, ram, rom, seg);
     registers::set_reg(word, file, 0, v.value);
@@ -67,7 +64,7 @@ fn ldm(file: &mut [u16; 14], ram: &mut [u8], rom: &[u8], word: bool, seg: u8) ->
 }
 
 fn stm(file: &mut [u16; 14], ram: &mut [u8], rom: &[u8], word: bool, seg: u8) -> Bus
-    ensures { λ r. ⌜ OnMemory Unit (tree.primitive sheet.Stm word seg) (now (file .entry)) (now (ram .entry)) (now (rom .entry)) tt (now (file .exit)) (now (ram .exit)) r 4 ⌝ }
+    ensures { λ r. ⌜ Does (tree.primitive sheet.Stm word seg) file ram rom r 4 ⌝ }
 {
     let v = registers::reg(word, file, 0);
     let b = elements::set_target(word, file, ram, rom, v);
@@ -104,7 +101,7 @@ fn primitive(
     word: bool,
     seg: u8,
 ) -> Bus
-    ensures { λ r. ⌜ OnMemory Unit (tree.primitive (primitiveOf kind) word seg) (now (file .entry)) (now (ram .entry)) (now (rom .entry)) tt (now (file .exit)) (now (ram .exit)) r 4 ⌝ }
+    ensures { λ r. ⌜ Does (tree.primitive (primitiveOf kind) word seg) file ram rom r 4 ⌝ }
 {
     match kind {
         Portless::Movbk => movbk(file, ram, rom, word, seg),
@@ -125,7 +122,7 @@ fn element(
     repeat: Repeat,
     start: u16,
 ) -> Bus
-    ensures { λ r. ⌜ OnMemory Unit (tree.element (primitiveOf kind) word seg repeat start) (now (file .entry)) (now (ram .entry)) (now (rom .entry)) tt (now (file .exit)) (now (ram .exit)) r 4 ⌝ }
+    ensures { λ r. ⌜ Does (tree.element (primitiveOf kind) word seg repeat start) file ram rom r 4 ⌝ }
 {
     let b = primitive(file, ram, rom, kind, word, seg);
     let k = named(kind);
@@ -144,11 +141,11 @@ pub fn block(
     repeat: Repeat,
     start: u16,
 ) -> Bus
-    ensures { λ r. ⌜ OnMemory Unit (tree.block (primitiveOf kind) word seg repeat start) (now (file .entry)) (now (ram .entry)) (now (rom .entry)) tt (now (file .exit)) (now (ram .exit)) r 4 ⌝ }
+    ensures { λ r. ⌜ Does (tree.block (primitiveOf kind) word seg repeat start) file ram rom r 4 ⌝ }
 {
     let due = elements::what_is_due(file[CW], repeat);
     match due {
-        Due::Nothing => Bus { cycles: 0 },
+        Due::Nothing => tally::none(),
         Due::Single => primitive(file, ram, rom, kind, word, seg),
         Due::Element => element(file, ram, rom, kind, word, seg, repeat, start),
     }

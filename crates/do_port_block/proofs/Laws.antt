@@ -1,9 +1,8 @@
 -- What each instruction comes to, from what its parts come to.
-use Prim.Native.Nat.{ℕ, zero-le}
+use Prim.Native.Nat.{ℕ}
 use mathlib.Core.Bool.{Bool}
 use mathlib.Core.List.{List}
 use mathlib.Core.Path.{_≡_}
-use native.Mathlib.Nat.{add-le-add}
 use lib.ListN.{getD}
 use Rattle.sheet.specs.declared.Bus.{Bus}
 use Rattle.sheet.specs.declared.Progress.{Progress}
@@ -17,6 +16,8 @@ use Rattle.sheet.specs.Handler.{nothing, _⊕_}
 use Rattle.sheet.specs.Block.{sourceElement, setTarget, stepIndex, primitive, afterElement, element, block}
 use Rattle.sheet.specs.Contract.{OnFile, OnMemory}
 use Rattle.sheet.proofs.Rules.{seq, seq-last, seq-stops, seq-then-stops, ends-pure, seq-registers, ends-registers}
+use Rattle.tally.specs.Sums.{Free, Joins}
+use Rattle.tally.proofs.Bounds.{within-none, within-both, within-memory}
 use Rattle.ports.specs.Accesses.{Gives, Takes, OnPorts}
 use Rattle.ports.proofs.Told.{ports-end, ports-stop}
 use Rattle.elements.specs.declared.Due.{Due}
@@ -26,13 +27,14 @@ use Rattle.do_port_block.specs.declared.Streaming.{Streaming}
 use Rattle.do_port_block.specs.declared.Streaming.the-variants as streaming
 use Rattle.do_port_block.specs.Streams.{primitiveOf}
 
-module _ (w : Bool) (seg : ℕ) (f g ram ram′ rom tape log log′ : List ℕ) (q q′ : Progress) (number v : ℕ) (c m : Bus) where
+module _ (w : Bool) (seg : ℕ) (f g ram ram′ rom tape log log′ : List ℕ) (q q′ : Progress) (number v : ℕ) (c m r : Bus) where
   pub inm-done : Takes w (getD f DW 0) tape log q number v log′ q′ c → number ≡ 0 → OnMemory Unit (setTarget w v) f ram rom tt f ram′ m 2 → OnFile Unit (stepIndex w IY) f tt g
-      → OnPorts (primitive Inm w seg) f ram rom tape log q 0 g ram′ log′ q′ (c ⊕ m) 4
+      → Joins c m r → OnPorts (primitive Inm w seg) f ram rom tape log q 0 g ram′ log′ q′ r 4
   unfolding primitive
-  inm-done t z s x =
-      ports-end _ f ram rom tape log q g ram′ log′ q′ (c ⊕ m) 4 (add-le-add (t .most) (s .most))
-      (λ h. seq-registers _ (seq _ (t .done z f h ram rom) (seq-last _ (s .at (stateOf f h q′) tape log′) (x .at (stateOf f h q′) ram′ rom tape log′))))
+  inm-done t z s x j =
+      rw (j .is)
+      (ports-end _ f ram rom tape log q g ram′ log′ q′ (c ⊕ m) 4 (within-both (t .most) (within-memory s))
+      (λ h. seq-registers _ (seq _ (t .done z f h ram rom) (seq-last _ (s .at (stateOf f h q′) tape log′) (x .at (stateOf f h q′) ram′ rom tape log′)))))
 
   pub inm-stop : Takes w (getD f DW 0) tape log q number v log′ q′ c → (number ≡ 0 → ⊥) → OnPorts (primitive Inm w seg) f ram rom tape log q number f ram log′ q′ c 4
   unfolding primitive
@@ -41,11 +43,12 @@ module _ (w : Bool) (seg : ℕ) (f g ram ram′ rom tape log log′ : List ℕ) 
       (λ h. seq-then-stops _ ends-registers (seq-stops _ (t .stop z f h ram rom)))
 
   pub outm-done : OnMemory ℕ (sourceElement w seg) f ram rom v f ram m 2 → Gives w (getD f DW 0) v log q number log′ q′ c → number ≡ 0 → OnFile Unit (stepIndex w IX) f tt g
-      → OnPorts (primitive Outm w seg) f ram rom tape log q 0 g ram log′ q′ (m ⊕ c) 4
+      → Joins m c r → OnPorts (primitive Outm w seg) f ram rom tape log q 0 g ram log′ q′ r 4
   unfolding primitive
-  outm-done s t z x =
-      ports-end _ f ram rom tape log q g ram log′ q′ (m ⊕ c) 4 (add-le-add (s .most) (t .most))
-      (λ h. seq _ (s .at (stateOf f h q) tape log) (seq-registers _ (seq-last _ (t .done z f h ram rom tape) (x .at (stateOf f h q′) ram rom tape log′))))
+  outm-done s t z x j =
+      rw (j .is)
+      (ports-end _ f ram rom tape log q g ram log′ q′ (m ⊕ c) 4 (within-both (within-memory s) (t .most))
+      (λ h. seq _ (s .at (stateOf f h q) tape log) (seq-registers _ (seq-last _ (t .done z f h ram rom tape) (x .at (stateOf f h q′) ram rom tape log′)))))
 
   pub outm-stop : OnMemory ℕ (sourceElement w seg) f ram rom v f ram m 2 → Gives w (getD f DW 0) v log q number log′ q′ c → (number ≡ 0 → ⊥)
       → OnPorts (primitive Outm w seg) f ram rom tape log q number f ram log′ q′ c 4
@@ -74,5 +77,5 @@ module _ (k : Primitive) (w : Bool) (seg : ℕ) (r : Repeat) (start : ℕ) (f ra
     pub due-known : d ≡ dueOf (getD f CW 0) r → d ≡ e → OnPorts (dueTree e k w seg r start) f ram rom tape log q number g ram′ log′ q′ c 4 → OnPorts (block k w seg r start) f ram rom tape log q number g ram′ log′ q′ c 4
     due-known y z p = record { most = p .most; done = λ x h. due-ends k w seg r start d y (rw z (p .done x h)); stop = λ x h. due-stops k w seg r start d y (rw z (p .stop x h)); same = p .same }
 
-pub nothing-done : (f ram rom tape log : List ℕ) (q : Progress) (top : ℕ) → OnPorts (pure tt) f ram rom tape log q 0 f ram log q nothing top
-nothing-done f ram rom tape log q top = ports-end _ f ram rom tape log q f ram log q nothing top zero-le (λ h. ends-pure)
+pub nothing-done : (f ram rom tape log : List ℕ) (q : Progress) (n : Bus) (top : ℕ) → Free n → OnPorts (pure tt) f ram rom tape log q 0 f ram log q n top
+nothing-done f ram rom tape log q n top e = rw (e .is) (ports-end _ f ram rom tape log q f ram log q nothing top within-none (λ h. ends-pure))

@@ -3,7 +3,6 @@ use elements::Due;
 use ports::Ported;
 use registers::CW;
 use registers::DW;
-use sheet::Bus;
 use sheet::Primitive;
 use sheet::Progress;
 use sheet::Repeat;
@@ -34,9 +33,7 @@ fn inm(
         return Ported {
             number: 0,
             progress: p,
-            bus: Bus {
-                cycles: b.cycles + c.cycles,
-            },
+            bus: tally::both(b, c),
         };
     }
     Ported {
@@ -67,9 +64,7 @@ fn outm(
         return Ported {
             number: 0,
             progress: p,
-            bus: Bus {
-                cycles: v.bus.cycles + b.cycles,
-            },
+            bus: tally::both(v.bus, b),
         };
     }
     Ported {
@@ -157,7 +152,7 @@ pub fn stream(
         Due::Nothing => Ported {
             number: 0,
             progress: q,
-            bus: Bus { cycles: 0 },
+            bus: tally::none(),
         },
         Due::Single => primitive(file, ram, rom, tape, log, q, kind, word, seg),
         Due::Element => element(file, ram, rom, tape, log, q, kind, word, seg, repeat, start),

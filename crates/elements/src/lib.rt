@@ -15,6 +15,7 @@ ghost use Prim.Native.Nat.{ℕ};
 ghost use Rattle.sheet.specs.Registers as sheet;
 ghost use Rattle.sheet.specs.Block as tree;
 ghost use Rattle.sheet.specs.Contract.{OnFile, OnMemory};
+ghost use Rattle.tally.specs.Lent.{Finds};
 ghost use Rattle.elements.specs.Due.{countedDue, dueOf};
 
 // ---- the index registers
@@ -47,7 +48,7 @@ pub fn step_iy(word: bool, file: &mut [u16; 14])
 // ---- the elements due
 
 pub fn source_element(word: bool, file: &[u16; 14], ram: &[u8], rom: &[u8], seg: u8) -> Loaded
-    ensures { λ r. ⌜ OnMemory ℕ (tree.sourceElement word seg) (now (file .entry)) (now (ram .entry)) (now (rom .entry)) (r .value) (now (file .entry)) (now (ram .entry)) (r .bus) 2 ⌝ }
+    ensures { λ r. ⌜ Finds ℕ (tree.sourceElement word seg) file ram rom (r .value) (r .bus) 2 ⌝ }
 {
     let g = registers::base(file, seg);
     let ix = file[IX];
@@ -55,7 +56,7 @@ pub fn source_element(word: bool, file: &[u16; 14], ram: &[u8], rom: &[u8], seg:
 }
 
 pub fn target_element(word: bool, file: &[u16; 14], ram: &[u8], rom: &[u8]) -> Loaded
-    ensures { λ r. ⌜ OnMemory ℕ (tree.targetElement word) (now (file .entry)) (now (ram .entry)) (now (rom .entry)) (r .value) (now (file .entry)) (now (ram .entry)) (r .bus) 2 ⌝ }
+    ensures { λ r. ⌜ Finds ℕ (tree.targetElement word) file ram rom (r .value) (r .bus) 2 ⌝ }
 {
     let ds1 = file[DS1];
     let iy = file[IY];

@@ -1,9 +1,8 @@
 -- What each kind of instruction comes to as an operation.
-use Prim.Native.Nat.{ℕ, _≤_, zero-le}
+use Prim.Native.Nat.{ℕ, _≤_}
 use mathlib.Core.Bool.{Bool, false}
 use mathlib.Core.List.{List}
 use mathlib.Core.Path.{_≡_, refl}
-use native.Mathlib.Nat.{le-trans}
 use Rattle.sheet.specs.declared.Bus.{Bus}
 use Rattle.sheet.specs.declared.Marks.{Marks}
 use Rattle.sheet.specs.declared.Progress.{Progress}
@@ -19,7 +18,6 @@ use Rattle.sheet.specs.declared.Move.{Move}
 use Rattle.sheet.specs.declared.Instr.the-variants.{Computes, Moves, Multiplies, Interrupts, Blocks, Ports, Controls}
 use Rattle.sheet.specs.World.{stateOf}
 use Rattle.sheet.specs.Act.{Act}
-use Rattle.sheet.specs.Handler.{nothing}
 use Rattle.sheet.specs.Interrupts.{interrupts}
 use Rattle.sheet.specs.Block.{block}
 use Rattle.sheet.specs.Ports.{ports}
@@ -28,6 +26,8 @@ use Rattle.sheet.specs.Traps.{untrapped}
 use Rattle.sheet.specs.Execute.{multiply, computing, moving, operation}
 use Rattle.sheet.specs.Contract.{OnMemory}
 use Rattle.sheet.proofs.Rules.{seq-last, seq-free, seq-stops, ends-pure}
+use Rattle.tally.specs.Sums.{Free}
+use Rattle.tally.proofs.Bounds.{within-free, within-memory, within-more}
 use Rattle.ports.specs.Accesses.{OnPorts}
 use Rattle.do_control.specs.Controls as do-control
 use Rattle.ports.specs.declared.Ported.{Ported}
@@ -42,7 +42,7 @@ module _ (p : Act Unit) (f g ram ram′ rom tape log : List ℕ) (h : Marks) (q 
   pub quiet-is : (n : Bus) (k : ℕ) → k ≤ 1020 → OnMemory Unit p f ram rom tt g ram′ n k → Performs (untrapped p) f ram rom tape log h q 0 false h g ram′ log q n
   unfolding untrapped
   quiet-is n t m k = record {
-    most = le-trans (k .most) m;
+    most = within-more m (within-memory k);
     done = λ z. seq-last _ (k .at (stateOf f h q) tape log) ends-pure;
     stop = λ z. absurd (z refl);
     same = λ z. absurd (z refl);
@@ -53,7 +53,7 @@ module _ (p : Act Unit) (f g ram ram′ rom tape log : List ℕ) (h : Marks) (q 
       → Performs (untrapped p) f ram rom tape log h q number false h g ram′ log′ q′ n
   unfolding untrapped
   ported-is log′ q′ number n t m k = record {
-    most = le-trans (k .most) m;
+    most = within-more m (k .most);
     done = λ z. seq-last _ (k .done z h) ends-pure;
     stop = λ z. seq-stops _ (k .stop z h);
     same = k .same;
@@ -63,18 +63,18 @@ module _ (p : Act Unit) (f g ram ram′ rom tape log : List ℕ) (h : Marks) (q 
 pub worked-is : (p : Act Bool) (f g ram ram′ rom tape log : List ℕ) (h : Marks) (q : Progress) (t : Bool) (n : Bus) (k : ℕ) → k ≤ 1020 → OnMemory Bool p f ram rom t g ram′ n k
     → Performs p f ram rom tape log h q 0 t h g ram′ log q n
 worked-is p f g ram ram′ rom tape log h q t n j m k = record {
-  most = le-trans (k .most) m;
+  most = within-more m (within-memory k);
   done = λ z. k .at (stateOf f h q) tape log;
   stop = λ z. absurd (z refl);
   same = λ z. absurd (z refl);
 }
 
-pub control-is : (t : Control) (f g ram rom tape log : List ℕ) (h : Marks) (q : Progress) (h′ : Marks) → do-control.Controls t f h g h′
-    → Performs (untrapped (control t)) f ram rom tape log h q 0 false h′ g ram log q nothing
+pub control-is : (t : Control) (f g ram rom tape log : List ℕ) (h : Marks) (q : Progress) (h′ : Marks) (n : Bus) → do-control.Controls t f h g h′ → Free n
+    → Performs (untrapped (control t)) f ram rom tape log h q 0 false h′ g ram log q n
 unfolding untrapped
-control-is t f g ram rom tape log h q h′ k = record {
-  most = zero-le;
-  done = λ z. seq-free _ (k .at q ram rom tape log) ends-pure;
+control-is t f g ram rom tape log h q h′ n k e = record {
+  most = within-free e;
+  done = λ z. rw (e .is) (seq-free _ (k .at q ram rom tape log) ends-pure);
   stop = λ z. absurd (z refl);
   same = λ z. absurd (z refl);
 }
@@ -132,6 +132,6 @@ module _ (o : Act Bool) (f g ram ram′ rom tape log : List ℕ) (h : Marks) (q 
       → Comes o f ram rom tape log h q x g ram′ log′
   at-through p r log′ k e m j u = rw (e, u) (ported-is p f g ram ram′ rom tape log h q log′ (r .progress) (r .number) (r .bus) k m j)
 
-pub at-control : (o : Act Bool) (f g ram rom tape log : List ℕ) (h : Marks) (q : Progress) (t : Control) (h′ : Marks) → o ≡ untrapped (control t) → do-control.Controls t f h g h′
-    → Performs o f ram rom tape log h q 0 false h′ g ram log q nothing
-at-control o f g ram rom tape log h q t h′ e k = rw e (control-is t f g ram rom tape log h q h′ k)
+pub at-control : (o : Act Bool) (f g ram rom tape log : List ℕ) (h : Marks) (q : Progress) (t : Control) (h′ : Marks) (n : Bus) → o ≡ untrapped (control t) → do-control.Controls t f h g h′ → Free n
+    → Performs o f ram rom tape log h q 0 false h′ g ram log q n
+at-control o f g ram rom tape log h q t h′ n e k u = rw e (control-is t f g ram rom tape log h q h′ n k u)

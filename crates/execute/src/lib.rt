@@ -113,7 +113,7 @@ pub fn perform(
                 trapped: false,
                 marks: h,
                 progress: q,
-                bus: Bus { cycles: 0 },
+                bus: tally::none(),
             }
         }
     }

@@ -1,3 +1,4 @@
+use Rattle.tally.proofs.Laws.{memory-none}
 use Rattle.sheet.proofs.Lifted.{file-pure, on-memory}
 use Rattle.elements.specs.Due.{dueTree}
 use Rattle.do_block.proofs.Laws.{due-known}
@@ -13,11 +14,12 @@ block-spec =
     (λ c. search needs)
     (λ c κs. search needs)
     (λ c. search needs)
-    (λ c. search needs)
     (λ c κs. search needs)
     (λ c. search needs)
     (λ c κs. search needs)
-    (λ c. search (due-known, on-memory, file-pure, needs))
+    (λ c. search needs)
+    (λ c κs. search needs)
+    (λ c. search (memory-none, due-known, on-memory, file-pure, needs))
     (λ c. search needs)
     (λ c. search (due-known, needs))
     (λ c. search needs)
