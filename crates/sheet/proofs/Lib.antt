@@ -10,3 +10,4 @@ pub mod SmallTable
 pub mod Forms
 pub mod StepLaws
 pub mod BlockLaws
+pub mod Fair

@@ -199,14 +199,14 @@ unfolding stepping singleStep
 of-tracing size n w o e h l =
     next (flag BRK) _ w (of-flag BRK _ w e o) (λ v q. next (execute (prepareAt size) n) _ v (of-execute size n v q) (λ x p. of-interrupting 1 x (p h l)))
 
-taken : (w : World) (n : ℕ) (e : Seen Unit) → Exactly (λ x. Unit {0}) n tt e → (x : World) × (reportOf w e ≡ report 0 x (record { cycles = n }))
-taken w n (ends tt x m) (exactly q h) = (x, rw h)
+taken : (w : World) (n : ℕ) (e : Seen Unit) → Exactly (λ x. Unit {0}) n tt e → (x : World) × (m : Bus) × (reportOf w e ≡ report 0 x m) × (m .cycles ≡ n)
+taken w n (ends tt x m) (exactly q h) = (x, m, refl, h)
 
 turns : (w : World) (i : Instr) (n k : ℕ) → Finds w i n → Exactly (λ x. Unit {0}) k tt (exec (stepping i n) (counted w)) → Makes w k
 unfolding stepReport exec
 turns w i n k f h =
-    let (x, e) = taken w k (exec (stepping i n) (counted w)) h in
-    record { after = x; is = rw (step-is w i n (f .fit, f .good) (f .up) (f .there)) e }
+    let (x, m, e, c) = taken w k (exec (stepping i n) (counted w)) h in
+    record { after = x; bus = m; is = rw (step-is w i n (f .fit, f .good) (f .up) (f .there)) e; count = c }
 
 pub prepare-1020 : (w : World) (size n : ℕ) → Finds w (prepareAt size) n → OddIn w → flagOf (pswOf (w .state)) BRK ≡ false → Makes w 1020
 unfolding counted

@@ -37,12 +37,12 @@ interrupt-tells : {x : ℕ} {m : Bool} {w v : World} {number : ℕ} {n : Bus} �
 unfolding interruptReport
 interrupt-tells {x} {m} {w} (interrupt-call h) = subst (Told w (interrupt x m w)) (h .is) (told w (interrupt x m w))
 
--- bus cycles are summed over the accesses
+-- what a step comes to is summed over the accesses
 pub tally-accesses : (t : List Event) → tally t ≡ tally (accesses t)
 unfolding tally accesses
 tally-accesses [] = refl
 tally-accesses (reads b g o ∷ t) = ap (λ n. cost (reads b g o) ⊕ n) (tally-accesses t)
-tally-accesses (writes b g o v ∷ t) = ap (λ n. cost (writes b g o v) ⊕ n) (tally-accesses t)
+tally-accesses (writes b g o v d ∷ t) = ap (λ n. cost (writes b g o v d) ⊕ n) (tally-accesses t)
 tally-accesses (takes b p v ∷ t) = ap (λ n. cost (takes b p v) ⊕ n) (tally-accesses t)
 tally-accesses (gives b p v ∷ t) = ap (λ n. cost (gives b p v) ⊕ n) (tally-accesses t)
 tally-accesses (asks f ∷ t) = no-first (tally t) ∙ tally-accesses t

@@ -67,4 +67,6 @@ preparing psw = machine (0 ∷ 0 ∷ 0 ∷ 0 ∷ 1 ∷ 1 ∷ 0 ∷ 0 ∷ 0 ∷ 0
 -- the step is accepted and makes exactly n bus cycles
 pub record Makes (w : World) (n : ℕ) : Type 0 where
   pub after : World
-  pub is : stepReport w ≡ report 0 after (record { cycles = n })
+  pub bus : Bus
+  pub is : stepReport w ≡ report 0 after bus
+  pub count : bus .cycles ≡ n
