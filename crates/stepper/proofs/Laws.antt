@@ -1,10 +1,8 @@
 -- What each return of the code comes to, over plain values.
-use Prim.Native.Nat.{ℕ, _+_, _≤_, _<_, zero-le}
+use Prim.Native.Nat.{ℕ}
 use mathlib.Core.Bool.{Bool, true, false, not, _&&_}
 use mathlib.Core.List.{List}
 use mathlib.Core.Path.{_≡_, refl, _∙_}
-use native.Mathlib.Nat.{add-le-add}
-use native.Mathlib.Omega.{arith}
 use lib.ListN.{getD, set}
 use lib.Seq.{set-set, set-getD}
 use Rattle.sheet.specs.declared.Bus.{Bus}
@@ -17,31 +15,24 @@ use Rattle.sheet.specs.Registers.{PC, PSW}
 use Rattle.sheet.specs.Log.{rule, risen}
 use Rattle.sheet.specs.World.{world, stateOf, markHalted}
 use Rattle.sheet.specs.Act.{halted}
-use Rattle.sheet.specs.Handler.{nothing, _⊕_}
+use Rattle.sheet.specs.Handler.{_⊕_}
 use Rattle.sheet.specs.Traps.{trap}
 use Rattle.sheet.specs.Execute.{operation, execute}
 use Rattle.sheet.specs.Step.{interrupting, singleStep, stepping, counted}
 use Rattle.sheet.specs.Contract.{Ends, Stops, OnMemory}
 use Rattle.sheet.proofs.Rules.{seq, seq-last, seq-stops, seq-then-stops, seq-flag, seq-registers, seq-set, ends-pure, ends-halted, ends-flag, ends-registers, ends-set}
+use Rattle.tally.specs.Sums.{Free}
+use Rattle.tally.proofs.Bounds.{within-free, within-memory, within-both}
 use Rattle.execute.specs.Performs.{Performs}
 use Rattle.stepper.specs.Proceeds.{begunAt, Finishes, Settles, Proceeds}
 
-pub counts-on : (n : ℕ) → n < 2097151 → n + 1 ≡ risen rule n
-counts-on n h = omega arith
-
-pub counts-no-more : (n : ℕ) → 2097151 ≤ n → 2097151 ≡ risen rule n
-counts-no-more n h = omega arith
-
 pub finishes-traced : (t : Bool) (h : Marks) (f g ram ram′ rom : List ℕ) (n : Bus) → t ≡ true → OnMemory Unit (trap 1) f ram rom tt g ram′ n 8 → Finishes t f ram rom h g ram′ (markHalted h false) n
 unfolding singleStep interrupting
-finishes-traced t h f g ram ram′ rom n e p = record { most = p .most; at = λ q tape log. rw e (seq-last _ (p .at (stateOf f h q) tape log) (ends-halted false)) }
+finishes-traced t h f g ram ram′ rom n e p = record { most = within-memory p; at = λ q tape log. rw e (seq-last _ (p .at (stateOf f h q) tape log) (ends-halted false)) }
 
-pub finishes-untraced : (t : Bool) (h : Marks) (f ram rom : List ℕ) → t ≡ false → Finishes t f ram rom h f ram h nothing
+pub finishes-untraced : (t : Bool) (h : Marks) (f ram rom : List ℕ) (n : Bus) → t ≡ false → Free n → Finishes t f ram rom h f ram h n
 unfolding singleStep
-finishes-untraced t h f ram rom e = record { most = zero-le; at = λ q tape log. rw e ends-pure }
-
-pub settles : (t : Bool) (h j : Marks) (q : Progress) (n m : Bus) (f g ram ram′ rom : List ℕ) → Finishes t f ram rom h g ram′ j m → Settles t h q n f ram rom 0 j q g ram′ (n ⊕ m)
-settles t h j q n m f g ram ram′ rom k = record { zero = refl; places = refl; last = m; sum = refl; finish = k }
+finishes-untraced t h f ram rom n e k = record { most = within-free k; at = λ q tape log. rw (e, k .is) ends-pure }
 
 pub begun-is : (q b : Progress) (k : ℕ) → k ≡ risen rule (q .count) → b ≡ record { tape = q .tape; log = q .log; count = k } → b ≡ begunAt q
 begun-is q b k e f = rw (f, e)
@@ -86,12 +77,12 @@ module _ (i : Instr) (size : ℕ) (f g ram ram′ rom tape log log′ : List ℕ
   unfolding stepping
   stops-short z = seq-then-stops _ (ends-flag BRK) (seq-stops _ (executed .stop z))
 
-  pub proceeds-stop : (number ≡ 0 → ⊥) → Proceeds i size f ram rom tape log m q number m q g ram′ log′ nothing
-  proceeds-stop z = record {
-    most = zero-le;
+  pub proceeds-stop : (c : Bus) → (number ≡ 0 → ⊥) → Free c → Proceeds i size f ram rom tape log m q number m q g ram′ log′ c
+  proceeds-stop c z k = record {
+    most = within-free k;
     done = λ y. absurd (z y);
     stop = λ y. rw (begun f ram rom tape log m q) (stops-short z);
-    same = λ y. (p .same z .0, p .same z .1, p .same z .2, refl, refl, refl);
+    same = λ y. (p .same z .0, p .same z .1, p .same z .2, refl, refl, k .is);
   }
 
   module _ (r : ℕ) (m″ : Marks) (q″ : Progress) (h ram″ : List ℕ) (c : Bus) (s : Settles (traced && not trapped) m′ q′ n g ram′ rom r m″ q″ h ram″ c) where
@@ -101,8 +92,8 @@ module _ (i : Instr) (size : ℕ) (f g ram ram′ rom tape log log′ : List ℕ
 
     pub proceeds-done : number ≡ 0 → Proceeds i size f ram rom tape log m q r m″ q″ h ram″ log′ c
     proceeds-done z = record {
-      most = rw (s .sum) (add-le-add (p .most) (s .finish .most));
-      done = λ y. rw (s .places, s .sum, begun f ram rom tape log m q) (steps z);
+      most = rw (s .sum .is) (within-both (p .most) (s .finish .most));
+      done = λ y. rw (s .places, s .sum .is, begun f ram rom tape log m q) (steps z);
       stop = λ y. absurd (y (s .zero));
       same = λ y. absurd (y (s .zero));
     }

@@ -7,11 +7,11 @@ use sheet::Instr;
 use sheet::Marks;
 use sheet::Progress;
 ghost use mathlib.Core.Path.{_≡_};
-ghost use Prim.Native.Nat.{_≤_};
 ghost use Rattle.sheet.specs.Log.{rule, risen};
 ghost use mathlib.Core.Bool.{not, _&&_};
 ghost use Rattle.stepper.specs.Proceeds.{begunAt, Finishes, Settles, Proceeds};
 ghost use Rattle.sheet.specs.Execute.{execute};
+ghost use Rattle.tally.specs.Bounds.{Within};
 ghost use Rattle.execute.specs.Performs.{Performs};
 
 // The count once one more step is done.
@@ -39,7 +39,7 @@ fn finish(file: &mut [u16; 14], ram: &mut [u8], rom: &[u8], traced: bool, marks:
     }
     Finished {
         marks,
-        bus: Bus { cycles: 0 },
+        bus: tally::none(),
     }
 }
 
@@ -64,7 +64,7 @@ pub struct Stepped {
 
 // What follows an instruction that was not refused.
 fn settle(file: &mut [u16; 14], ram: &mut [u8], rom: &[u8], traced: bool, p: Performed) -> Stepped
-    requires { ⌜ p .bus .cycles ≤ 1020 ⌝ }
+    requires { ⌜ Within (p .bus) 1020 ⌝ }
     ensures { λ r. ⌜ Settles (traced && not (p .trapped)) (p .marks) (p .progress) (p .bus) (now (file .entry)) (now (ram .entry)) (now (rom .entry)) (r .number) (r .marks) (r .progress) (now (file .exit)) (now (ram .exit)) (r .bus) ⌝ }
 {
     let to = p.progress;
@@ -75,9 +75,7 @@ fn settle(file: &mut [u16; 14], ram: &mut [u8], rom: &[u8], traced: bool, p: Per
         number: 0,
         marks,
         progress: to,
-        bus: Bus {
-            cycles: p.bus.cycles + last.bus.cycles,
-        },
+        bus: tally::both(p.bus, last.bus),
     }
 }
 
@@ -126,7 +124,7 @@ pub fn proceed(
             number: p.number,
             marks: m,
             progress: q,
-            bus: Bus { cycles: 0 },
+            bus: tally::none(),
         };
     }
     settle(file, ram, rom, traced, p)

@@ -10,4 +10,5 @@ returns-2 : tie.Need-returns-2
 returns-2 c = search (finishes-untraced, needs)
 
 pub finish-spec : {M : Type 1} → statement M
-finish-spec = tie.close (tie.spec (λ c κs. search needs) (λ c. search needs) returns returns-2)
+finish-spec =
+    tie.close (tie.spec (λ c κs. search needs) (λ c. search needs) returns (λ c κs. search needs) returns-2)

@@ -7,13 +7,14 @@ returns : tie.Need-returns
 returns c = search (proceeds-stop, needs)
 
 returns-2 : tie.Need-returns-2
-returns-2 c = search (proceeds-done, needs)
+returns-2 c = search (proceeds-done, c .before .before .before .before .before .before .before .before .before .before .before .before .before .before .before .before .brk .ensures, needs)
 
 pub proceed-spec : {M : Type 1} → statement M
 proceed-spec =
     tie.close
     (tie.spec
     (λ c. search needs)
+    (λ c κs. search needs)
     (λ c κs. search needs)
     (λ c κs. search needs)
     (λ c κs. search needs)
