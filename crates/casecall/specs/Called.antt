@@ -7,6 +7,7 @@ use lib.ListN.{length, replicate}
 use Rattle.sheet.specs.declared.State.{State}
 use Rattle.sheet.specs.declared.Entry.{Entry}
 use Rattle.sheet.specs.Width.{pick}
+use Rattle.sheet.specs.Handler.{nothing}
 use Rattle.sheet.specs.Step as definition
 use Rattle.calls.specs.Calls.{Interrupts}
 use Rattle.engine.specs.Steps.{Steps}
@@ -22,7 +23,7 @@ abbrev pub stepsOf : ℕ → ℕ
 stepsOf number = pick (eqb number 0) 1 0
 
 abbrev pub resetAs : Done
-resetAs = record { number = 0; steps = 0; state = definition.reset; bus = record { cycles = 0 } }
+resetAs = record { number = 0; steps = 0; state = definition.reset; bus = nothing }
 
 -- the call of a case, by its number: 0 step, 1 run, 2 interrupt, 3 reset
 pub record Called (c : Case) (s : State) (ram rom tape log : List ℕ) (d : Done) (ram′ log′ : List ℕ) : Type 0 where

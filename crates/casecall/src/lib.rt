@@ -83,7 +83,10 @@ fn reset() -> Done
         number: 0,
         steps: 0,
         state,
-        bus: Bus { cycles: 0 },
+        bus: Bus {
+            cycles: 0,
+            dropped: 0,
+        },
     }
 }
 

@@ -10,4 +10,3 @@ pub mod SmallTable
 pub mod Forms
 pub mod StepLaws
 pub mod BlockLaws
-pub mod Fair

@@ -3,12 +3,12 @@ use Prim.Native.Nat.{ℕ, _+_, _*_, _≤_, zero-le}
 use mathlib.Core.Path.{_≡_}
 use mathlib.Core.Bool.{Bool, true, false}
 use mathlib.Core.List.{List}
-use native.Mathlib.Nat.{add-le-add}
+use native.Mathlib.Nat.{add-le-add, le-trans}
 use native.Mathlib.Omega.{arith}
 use lib.Dec.{ltb, lit≤}
 use lib.ListN.{length, set}
 use Rattle.sheet.specs.declared.Bus.{Bus}
-use Rattle.sheet.specs.Width.{pick, wrapOf}
+use Rattle.sheet.specs.Width.{pick, bytesOf, wrapOf}
 use Rattle.sheet.specs.Psw.{Flag, Effect, keeps, flagOf, settled}
 use Rattle.sheet.specs.Registers.{PSW, File, fileOf, written}
 use Rattle.sheet.specs.Memory.{physical, next, readMem, writeMem, busCycles, lost, lostBytes}
@@ -78,11 +78,20 @@ lost-one ram a = go (ltb a (length ram))
     go true = lit≤ tt
     go false = lit≤ tt
 
--- at most two bytes a cycle: a word's two at an even address
+-- a write drops no more bytes than it has
+pub lost-bytes : (b : Bool) (ram : List ℕ) (g o : ℕ) → lostBytes b ram g o ≤ bytesOf b
+unfolding lostBytes
+lost-bytes true ram g o = let x = lost-one ram (physical g o) in let y = lost-one ram (physical g (next o)) in omega arith
+lost-bytes false ram g o = lost-one ram (physical g o)
+
+-- two bytes a cycle: a word at an even address
+pub bytes-fair : (b : Bool) (o : ℕ) → bytesOf b ≤ 2 * busCycles b o
+unfolding busCycles
+bytes-fair true o = omega arith
+bytes-fair false o = lit≤ tt
+
 pub lost-fair : (b : Bool) (ram : List ℕ) (g o : ℕ) → lostBytes b ram g o ≤ 2 * busCycles b o
-unfolding lostBytes busCycles
-lost-fair true ram g o = let x = lost-one ram (physical g o) in let y = lost-one ram (physical g (next o)) in omega arith
-lost-fair false ram g o = let x = lost-one ram (physical g o) in omega arith
+lost-fair b ram g o = le-trans (lost-bytes b ram g o) (bytes-fair b o)
 
 -- one access
 pub memory-peek : (b : Bool) (g o v : ℕ) (n : Bus) (f ram rom : List ℕ) → v ≡ readMem b ram rom g o → n ≡ busOf b o → OnMemory ℕ (peek b g o) f ram rom v f ram n 2

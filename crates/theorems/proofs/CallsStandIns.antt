@@ -100,7 +100,7 @@ module _ (engine : World → Report) (meets : MeetsStep engine) where
 -- ---- an interrupt call
 
 pub takes-it : interruptReport 0 false callable ≡ report 0 entered (record { cycles = 5; dropped = 0 })
-unfolding interruptReport interrupt interruptBy fits sound interrupting trap save pushPsw pushPsPc jumpFar push _>>=_ runBy tally busCycles lost lostBytes wrapOf settled readMem writeMem byteAt busCycles
+unfolding interruptReport interrupt interruptBy fits sound interrupting trap save pushPsw pushPsPc jumpFar push _>>=_ runBy tally wrapOf settled readMem writeMem byteAt busCycles lost lostBytes
 takes-it = refl
 
 pub is-masked : interruptReport 0 true masked ≡ report 7 masked nothing

@@ -20,6 +20,8 @@ pub mod BoundsReading
 pub mod BoundsCodes
 pub mod BoundsStep
 pub mod BoundsPrepare
+pub mod Dropped
+pub mod BoundsDropped
 pub mod Calls
 pub mod CallsStandIns
 pub mod CallsCode

@@ -1,12 +1,14 @@
 -- What is said of a call's bus cycles and of its refusals.
-use Prim.Native.Nat.{ℕ, _%_, _≤_}
+use Prim.Native.Nat.{ℕ, _+_, _%_, _≤_}
 use mathlib.Core.Bool.{true, false}
 use mathlib.Core.List.{List, [], _∷_}
 use mathlib.Core.Path.{_≡_}
 use lib.ListN.{length, getD}
 use Rattle.sheet.specs.declared.Bus.{Bus}
 use Rattle.sheet.specs.declared.Instr.{Instr}
+use Rattle.sheet.specs.Width.{bytesOf}
 use Rattle.sheet.specs.Registers.{SP, BP}
+use Rattle.sheet.specs.Handler.{Event, reads, writes, takes, gives, asks, copies, changes}
 use Rattle.sheet.specs.World.{World}
 use Rattle.sheet.specs.Contract.{Seen, stops, ends, report}
 use Rattle.sheet.specs.Reading.{known, scan}
@@ -25,6 +27,13 @@ stepTop = 1028
 abbrev pub interruptTop : ℕ
 interruptTop = 8
 
+-- the most bytes that they drop
+abbrev pub dropTop : ℕ
+dropTop = 518
+
+abbrev pub interruptDropTop : ℕ
+interruptDropTop = 6
+
 -- their refusals, as they are checked
 abbrev pub stepRefusals : List ℕ
 stepRefusals = 1 ∷ 2 ∷ 8 ∷ 3 ∷ 4 ∷ 5 ∷ 6 ∷ []
@@ -41,6 +50,22 @@ pub data Among (k : ℕ) : List ℕ → Type 0 where
 pub data Comes (n : ℕ) (refusals : List ℕ) : Seen Unit → Type 0 where
   ends-in : {w : World} {m : Bus} → m .cycles ≤ n → Comes n refusals (ends tt w m)
   stops-by : {k : ℕ} → Among k refusals → Comes n refusals (stops k)
+
+-- ---- what is written
+
+-- the bytes that an event writes, landed or dropped
+abbrev pub writtenBy : Event → ℕ
+writtenBy (reads b g o) = 0
+writtenBy (writes b g o v d) = bytesOf b
+writtenBy (takes b n v) = 0
+writtenBy (gives b n v) = 0
+writtenBy (asks f) = 0
+writtenBy (copies b) = 0
+writtenBy (changes c) = 0
+
+unfoldable pub bytesWritten : List Event → ℕ
+bytesWritten [] = 0
+bytesWritten (e ∷ t) = writtenBy e + bytesWritten t
 
 -- ---- PREPARE
 
