@@ -9,7 +9,7 @@ use Rattle.sheet.specs.declared.Instr.{Instr}
 use Rattle.sheet.specs.Width.{bytesOf}
 use Rattle.sheet.specs.Registers.{SP, BP}
 use Rattle.sheet.specs.Handler.{Event, reads, writes, takes, gives, asks, copies, changes}
-use Rattle.sheet.specs.World.{World}
+use Rattle.sheet.specs.World.{World, world}
 use Rattle.sheet.specs.Contract.{Seen, stops, ends, report}
 use Rattle.sheet.specs.Reading.{known, scan}
 use Rattle.sheet.specs.FirstByte.{instruction}
@@ -89,9 +89,21 @@ OddIn w = Odd (w .state .file)
 abbrev pub preparing : ℕ → World
 preparing psw = machine (0 ∷ 0 ∷ 0 ∷ 0 ∷ 1 ∷ 1 ∷ 0 ∷ 0 ∷ 0 ∷ 0 ∷ 0 ∷ 0 ∷ 0 ∷ psw ∷ []) false 0 (0xc8 ∷ 0x00 ∷ 0x00 ∷ 0xff ∷ [])
 
--- the step is accepted and makes exactly n bus cycles
-pub record Makes (w : World) (n : ℕ) : Type 0 where
+-- the same in ROM, at FFFF:000C, without RAM and with BRK set
+abbrev pub preparingInRom : World
+preparingInRom =
+    world (record { file = 0 ∷ 0 ∷ 0 ∷ 0 ∷ 1 ∷ 1 ∷ 0 ∷ 0 ∷ 0 ∷ 0xffff ∷ 0 ∷ 0 ∷ 0xc ∷ 0xf102 ∷ []; marks = record { halted = false }; progress = record { tape = 0; log = 0; count = 0 } })
+    [] (0xc8 ∷ 0x00 ∷ 0x00 ∷ 0xff ∷ []) [] []
+
+-- the step is accepted, and one of the numbers of its bus is exactly n
+pub record Reaches (of : Bus → ℕ) (w : World) (n : ℕ) : Type 0 where
   pub after : World
   pub bus : Bus
   pub is : stepReport w ≡ report 0 after bus
-  pub count : bus .cycles ≡ n
+  pub count : of bus ≡ n
+
+abbrev pub Makes : World → ℕ → Type 0
+Makes w n = Reaches (λ b. b .cycles) w n
+
+abbrev pub Loses : World → ℕ → Type 0
+Loses w n = Reaches (λ b. b .dropped) w n
