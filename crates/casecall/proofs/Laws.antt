@@ -4,8 +4,11 @@ use mathlib.Core.List.{List}
 use mathlib.Core.Path.{_≡_, refl}
 use native.Mathlib.Omega.{arith}
 use lib.ListN.{replicate}
+use Rattle.sheet.specs.declared.Bus.{Bus}
 use Rattle.sheet.specs.declared.State.{State}
 use Rattle.sheet.specs.declared.Entry.{Entry}
+use Rattle.sheet.specs.Step as definition
+use Rattle.tally.specs.Sums.{Free}
 use Rattle.calls.specs.Calls.{Interrupts}
 use Rattle.engine.specs.Steps.{Steps}
 use Rattle.engine.specs.Runs.{Runs}
@@ -53,6 +56,9 @@ module _ (c : Case) (s : State) (ram rom tape log : List ℕ) (d : Done) where
         interrupt = λ z. absurd (e z);
         reset = λ z. (p, refl, refl);
       }
+
+pub reset-as : (s : State) (n : Bus) → s ≡ definition.reset → Free n → record { number = 0; steps = 0; state = s; bus = n } ≡ resetAs
+reset-as s n e k = rw (e, k .is)
 
 pub result-of : (c : Case) (s : State) (ram rom tape log : List ℕ) (d : Done) (ram′ log′ out : List ℕ) → Called c s ram rom tape log d ram′ log′ → out ≡ bytesOf d ram′ log′
     → Result c s ram rom tape log ram′ log′ out

@@ -83,10 +83,7 @@ fn reset() -> Done
         number: 0,
         steps: 0,
         state,
-        bus: Bus {
-            cycles: 0,
-            dropped: 0,
-        },
+        bus: tally::none(),
     }
 }
 

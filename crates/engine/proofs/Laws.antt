@@ -22,6 +22,8 @@ use Rattle.answers.specs.declared.Decoded.{Decoded}
 use Rattle.answers.specs.declared.Decoded.the-variants.{Known, Unknown}
 use Rattle.answers.specs.Answer.{Decodes}
 use Rattle.answers.proofs.DecodesLaws.{known-reads, unknown-refuses}
+use Rattle.tally.specs.Sums.{Free}
+use Rattle.tally.proofs.Bounds.{within-none}
 use Rattle.calls.specs.Calls.{checkNumber}
 use Rattle.calls.proofs.Laws.{passed, checked-passed, checked-refused}
 use Rattle.stepper.specs.Proceeds.{Proceeds}
@@ -39,8 +41,11 @@ awake-unknown : (w : World) (k : ℕ) → w .state .marks .halted ≡ false → 
 unfolding awake decoded
 awake-unknown w k h r = rw (h, r .is)
 
+pub refused-as : (m : Marks) (q : Progress) (number : ℕ) (n : Bus) → Free n → record { done = false; number = number; marks = m; progress = q; bus = n } ≡ refusedAt m q number
+refused-as m q number n e = rw (e .is)
+
 refused-so : (s : State) (ram rom tape log : List ℕ) (k : ℕ) → seen (awake kept (world s ram rom tape log)) ≡ stops k → Advances s ram rom tape log false k s ram log nothing
-refused-so s ram rom tape log k e = record { most = zero-le; is = e; zero = λ q. cc; same = λ q. (refl, refl, refl, refl) }
+refused-so s ram rom tape log k e = record { most = within-none; is = e; zero = λ q. cc; same = λ q. (refl, refl, refl, refl) }
 
 pub carries : (i : Instr) (size : ℕ) (f ram rom tape log : List ℕ) (m : Marks) (q : Progress) (y : Stepped) (x : Advanced) (f′ ram′ log′ : List ℕ)
     → Proceeds i size f ram rom tape log m q (y .number) (y .marks) (y .progress) f′ ram′ log′ (y .bus) → x ≡ advancedBy y → Carries i size f ram rom tape log m q x f′ ram′ log′
@@ -96,15 +101,15 @@ pub moves : (s : State) (ram rom tape log : List ℕ) (a : Advanced) (x : Answer
     → Advances s ram rom tape log (a .done) (a .number) (stateOf f (a .marks) (a .progress)) ram′ log′ (a .bus) → x ≡ answerOf f a
     → Moves s ram rom tape log (x .number) (x .state) ram′ log′ (x .bus)
 moves s ram rom tape log a x f ram′ log′ p u =
-    rw u (record { most = p .most; is = report-advanced s ram rom tape log (a .done) (a .number) (stateOf f (a .marks) (a .progress)) ram′ log′ (a .bus) p })
+    rw u (record { most = p .most .cycles; is = report-advanced s ram rom tape log (a .done) (a .number) (stateOf f (a .marks) (a .progress)) ram′ log′ (a .bus) p })
 
 module _ (s : State) (ram rom tape log : List ℕ) (number : ℕ) (e : number ≡ checkNumber (world s ram rom tape log)) where
   w : World
   w = world s ram rom tape log
 
-  pub refused-first : (number ≡ 0 → ⊥) → Steps s ram rom tape log number s ram log nothing
+  pub refused-first : (n : Bus) → (number ≡ 0 → ⊥) → Free n → Steps s ram rom tape log number s ram log n
   unfolding w stepReport step stepBy
-  refused-first z = record { most = zero-le; is = ap (λ (o : Outcome Unit). reportOf w (seen o)) (checked-refused w refusal _ number e z) }
+  refused-first n z k = rw (k .is) (record { most = zero-le; is = ap (λ (o : Outcome Unit). reportOf w (seen o)) (checked-refused w refusal _ number e z) })
 
   pub steps : (r : ℕ) (x : State) (ram′ log′ : List ℕ) (n : Bus) → number ≡ 0 → Moves s ram rom tape log r x ram′ log′ n → Steps s ram rom tape log r x ram′ log′ n
   unfolding w stepReport step stepBy

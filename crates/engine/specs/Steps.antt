@@ -12,6 +12,7 @@ use Rattle.sheet.specs.World.{World, world, stateOf}
 use Rattle.sheet.specs.Handler.{kept, nothing}
 use Rattle.sheet.specs.Contract.{Seen, stops, ends, seen, report, reportOf}
 use Rattle.sheet.specs.Step.{awake, stepReport}
+use Rattle.tally.specs.Bounds.{Within}
 use Rattle.calls.specs.declared.Answer.{Answer}
 use Rattle.sheet.specs.declared.Instr.{Instr}
 use Rattle.stepper.specs.Proceeds.{Proceeds}
@@ -39,7 +40,7 @@ seenBy false number v n = stops number
 
 -- what comes after the checks 1 and 2, which a run makes once
 pub record Advances (s : State) (ram rom tape log : List ℕ) (done : Bool) (number : ℕ) (s′ : State) (ram′ log′ : List ℕ) (n : Bus) : Type 0 where
-  pub most : n .cycles ≤ 1028
+  pub most : Within n 1028
   pub is : seen (awake kept (world s ram rom tape log)) ≡ seenBy done number (world s′ ram′ rom tape log′) n
   pub zero : done ≡ true → number ≡ 0
   pub same : done ≡ false → (s′ ≡ s) × (ram′ ≡ ram) × (log′ ≡ log) × (n ≡ nothing)

@@ -41,7 +41,7 @@ fn refuse(marks: Marks, q: Progress, number: u8) -> Advanced
         number,
         marks,
         progress: q,
-        bus: Bus { cycles: 0 },
+        bus: tally::none(),
     }
 }
 
@@ -156,7 +156,7 @@ pub fn step(s: State, ram: &mut [u8], rom: &[u8], tape: &[u8], log: &mut [u8]) -
         return Answer {
             number: number,
             state: s,
-            bus: Bus { cycles: 0 },
+            bus: tally::none(),
         };
     }
     move_on(s, ram, rom, tape, log)
@@ -171,7 +171,7 @@ fn go_on(s: State, ram: &mut [u8], rom: &[u8], tape: &[u8], log: &mut [u8], budg
     let mut marks = s.marks;
     let mut q = s.progress;
     let mut steps: u16 = 0;
-    let mut cycles: u32 = 0;
+    let mut bus = tally::none();
     while steps < budget {
         let a = advance(&mut file, ram, rom, tape, log, marks, q);
         if !a.done {
@@ -180,12 +180,12 @@ fn go_on(s: State, ram: &mut [u8], rom: &[u8], tape: &[u8], log: &mut [u8], budg
                 number: a.number,
                 state,
                 steps,
-                bus: Bus { cycles },
+                bus,
             };
         }
         marks = a.marks;
         q = a.progress;
-        cycles = cycles + a.bus.cycles;
+        bus = tally::both(bus, a.bus);
         steps = steps + 1;
     }
     let state = state_of(file, marks, q);
@@ -193,7 +193,7 @@ fn go_on(s: State, ram: &mut [u8], rom: &[u8], tape: &[u8], log: &mut [u8], budg
         number: 0,
         state,
         steps,
-        bus: Bus { cycles },
+        bus,
     }
 }
 
@@ -207,7 +207,7 @@ pub fn run(s: State, ram: &mut [u8], rom: &[u8], tape: &[u8], log: &mut [u8], bu
             number,
             state: s,
             steps: 0,
-            bus: Bus { cycles: 0 },
+            bus: tally::none(),
         };
     }
     go_on(s, ram, rom, tape, log, budget)
