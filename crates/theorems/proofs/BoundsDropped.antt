@@ -68,7 +68,9 @@ of-peek = record { at = λ w. within (le-refl 0) }
 
 of-poke : {b : Bool} {g o v : ℕ} → Drops Unit (poke b g o v) (bytesOf b)
 unfolding exec run runBy tally
-of-poke {b} {g} {o} = record { at = λ w. within (rw (add-zero (lostBytes b (w .ram) g o)) (lost-bytes b (w .ram) g o)) }
+of-poke {b} {g} {o} =
+    let h : (w : World) → lostBytes b (w .ram) g o + 0 ≤ bytesOf b = λ w. rw (add-zero (lostBytes b (w .ram) g o)) (lost-bytes b (w .ram) g o) in
+    record { at = λ w. within (h w) }
 
 -- ---- the stack and traps
 

@@ -44,7 +44,10 @@ pub data Exactly {A : Type 0} (E : Type 0) (Q : World → Type 0) (n d : ℕ) (a
 module _ {E : Type 0} where
   plus-exactly : {A : Type 0} {Q : World → Type 0} {x : A} (m : Bus) (a b c d : ℕ) (e : Seen A) → m .cycles ≡ a → (E → m .dropped ≡ c) → Exactly E Q b d x e
       → Exactly E Q (a + b) (c + d) x (plus m e)
-  plus-exactly m a b c d (ends y v n) h k (exactly q g l) = exactly q (rw (h, g)) (λ e. rw (k e, l e))
+  plus-exactly m a b c d (ends y v n) h k (exactly q g l) =
+      let z : m .cycles + n .cycles ≡ a + b = rw (h, g) in
+      let y : E → m .dropped + n .dropped ≡ c + d = λ e. rw (k e, l e) in
+      exactly q z y
 
   andThen-exactly : {A B : Type 0} {Q R : World → Type 0} {x : A} {y : B} (a b c d : ℕ) (e : Seen A) (f : A → World → Seen B) → Exactly E Q a c x e
       → ((v : World) → Q v → Exactly E R b d y (f x v)) → Exactly E R (a + b) (c + d) y (andThen e f)

@@ -50,7 +50,7 @@ Drops A p n = Bound dropped A p n
 -- ---- joining
 
 plus-within : {A : Type 0} (m : Measure) (c : Bus) (a b : ℕ) (e : Seen A) → m .of c ≤ a → Within m b e → Within m (a + b) (plus c e)
-plus-within m c a b (ends x w n) h (within g) = within (rw (m .adds c n) (add-le-add h g))
+plus-within m c a b (ends x w n) h (within g) = let q : m .of (c ⊕ n) ≤ a + b = rw (m .adds c n) (add-le-add h g) in within q
 plus-within m c a b (stops k) h (short-of f g) = short-of f g
 
 andThen-within : {A B : Type 0} (m : Measure) (a b : ℕ) (e : Seen A) (f : A → World → Seen B) → Within m a e → ((x : A) (v : World) → Within m b (f x v)) → Within m (a + b) (andThen e f)
