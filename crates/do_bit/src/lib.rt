@@ -7,7 +7,7 @@ use sheet::Place;
 use sheet::Spot;
 ghost use Rattle.sheet.specs.Operand.{deposit};
 ghost use Rattle.sheet.specs.Bits as tree;
-ghost use Rattle.sheet.specs.Contract.{OnMemory};
+ghost use Rattle.tally.specs.Lent.{Does};
 
 // Writes x with its bit n as given.
 fn write_bit(
@@ -20,7 +20,7 @@ fn write_bit(
     n: u8,
     b: bool,
 ) -> Bus
-    ensures { λ r. ⌜ OnMemory Unit (deposit word spot (tree.withBit x (tree.bitNumber word n) b)) (now (file .entry)) (now (ram .entry)) (now (rom .entry)) tt (now (file .exit)) (now (ram .exit)) r 2 ⌝ }
+    ensures { λ r. ⌜ Does (deposit word spot (tree.withBit x (tree.bitNumber word n) b)) file ram rom r 2 ⌝ }
 {
     let v = bits::with_bit(word, x, n, b);
     operand::deposit(word, file, ram, rom, spot, v)
@@ -36,12 +36,12 @@ fn bit_done(
     x: u16,
     n: u8,
 ) -> Bus
-    ensures { λ r. ⌜ OnMemory Unit (tree.bitDone op word spot x (tree.bitNumber word n)) (now (file .entry)) (now (ram .entry)) (now (rom .entry)) tt (now (file .exit)) (now (ram .exit)) r 2 ⌝ }
+    ensures { λ r. ⌜ Does (tree.bitDone op word spot x (tree.bitNumber word n)) file ram rom r 2 ⌝ }
 {
     match op {
         Bit::Test1 => {
             file[PSW] = bits::after_test(word, x, n, file[PSW]);
-            Bus { cycles: 0 }
+            tally::none()
         }
         Bit::Clr1 => write_bit(file, ram, rom, word, spot, x, n, false),
         Bit::Set1 => write_bit(file, ram, rom, word, spot, x, n, true),
@@ -61,13 +61,11 @@ pub fn bits(
     to: Place,
     number: Amount,
 ) -> Bus
-    ensures { λ r. ⌜ OnMemory Unit (tree.bits op word to number) (now (file .entry)) (now (ram .entry)) (now (rom .entry)) tt (now (file .exit)) (now (ram .exit)) r 4 ⌝ }
+    ensures { λ r. ⌜ Does (tree.bits op word to number) file ram rom r 4 ⌝ }
 {
     let n = operand::amount(file, number);
     let spot = operand::locate(file, to);
     let x = operand::fetch(word, file, ram, rom, spot);
     let b = bit_done(file, ram, rom, op, word, spot, x.value, n);
-    Bus {
-        cycles: x.bus.cycles + b.cycles,
-    }
+    tally::both(x.bus, b)
 }

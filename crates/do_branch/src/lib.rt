@@ -6,7 +6,8 @@ use sheet::Branch;
 use sheet::Bus;
 use sheet::Place;
 ghost use Rattle.sheet.specs.Branch as tree;
-ghost use Rattle.sheet.specs.Contract.{OnFile, OnMemory};
+ghost use Rattle.sheet.specs.Contract.{OnFile};
+ghost use Rattle.tally.specs.Lent.{Does, Takes};
 
 fn release(file: &mut [u16; 14], size: u16)
     ensures { λ _. ⌜ OnFile Unit (tree.release size) (now (file .entry)) tt (now (file .exit)) ⌝ }
@@ -15,7 +16,7 @@ fn release(file: &mut [u16; 14], size: u16)
 }
 
 fn ret(file: &mut [u16; 14], ram: &[u8], rom: &[u8]) -> Bus
-    ensures { λ r. ⌜ OnMemory Unit tree.ret (now (file .entry)) (now (ram .entry)) (now (rom .entry)) tt (now (file .exit)) (now (ram .entry)) r 2 ⌝ }
+    ensures { λ r. ⌜ Takes Unit tree.ret file ram rom tt r 2 ⌝ }
 {
     let pc = traps::pop(file, ram, rom);
     file[PC] = pc.value;
@@ -23,7 +24,7 @@ fn ret(file: &mut [u16; 14], ram: &[u8], rom: &[u8]) -> Bus
 }
 
 fn ret_pop(file: &mut [u16; 14], ram: &[u8], rom: &[u8], size: u16) -> Bus
-    ensures { λ r. ⌜ OnMemory Unit (tree.retPop size) (now (file .entry)) (now (ram .entry)) (now (rom .entry)) tt (now (file .exit)) (now (ram .entry)) r 2 ⌝ }
+    ensures { λ r. ⌜ Takes Unit (tree.retPop size) file ram rom tt r 2 ⌝ }
 {
     let b = ret(file, ram, rom);
     release(file, size);
@@ -31,18 +32,16 @@ fn ret_pop(file: &mut [u16; 14], ram: &[u8], rom: &[u8], size: u16) -> Bus
 }
 
 fn ret_far(file: &mut [u16; 14], ram: &[u8], rom: &[u8]) -> Bus
-    ensures { λ r. ⌜ OnMemory Unit tree.retFar (now (file .entry)) (now (ram .entry)) (now (rom .entry)) tt (now (file .exit)) (now (ram .entry)) r 4 ⌝ }
+    ensures { λ r. ⌜ Takes Unit tree.retFar file ram rom tt r 4 ⌝ }
 {
     let pc = traps::pop(file, ram, rom);
     let ps = traps::pop(file, ram, rom);
     jumps::jump_far(file, ps.value, pc.value);
-    Bus {
-        cycles: pc.bus.cycles + ps.bus.cycles,
-    }
+    tally::both(pc.bus, ps.bus)
 }
 
 fn ret_far_pop(file: &mut [u16; 14], ram: &[u8], rom: &[u8], size: u16) -> Bus
-    ensures { λ r. ⌜ OnMemory Unit (tree.retFarPop size) (now (file .entry)) (now (ram .entry)) (now (rom .entry)) tt (now (file .exit)) (now (ram .entry)) r 4 ⌝ }
+    ensures { λ r. ⌜ Takes Unit (tree.retFarPop size) file ram rom tt r 4 ⌝ }
 {
     let b = ret_far(file, ram, rom);
     release(file, size);
@@ -50,7 +49,7 @@ fn ret_far_pop(file: &mut [u16; 14], ram: &[u8], rom: &[u8], size: u16) -> Bus
 }
 
 fn br_to(file: &mut [u16; 14], ram: &[u8], rom: &[u8], to: Place) -> Bus
-    ensures { λ r. ⌜ OnMemory Unit (tree.brTo to) (now (file .entry)) (now (ram .entry)) (now (rom .entry)) tt (now (file .exit)) (now (ram .entry)) r 2 ⌝ }
+    ensures { λ r. ⌜ Takes Unit (tree.brTo to) file ram rom tt r 2 ⌝ }
 {
     let v = operand::value_at(true, file, ram, rom, to);
     file[PC] = v.value;
@@ -59,7 +58,7 @@ fn br_to(file: &mut [u16; 14], ram: &[u8], rom: &[u8], to: Place) -> Bus
 
 // PS's word is read first.
 fn br_far_at(file: &mut [u16; 14], ram: &[u8], rom: &[u8], at: Address) -> Bus
-    ensures { λ r. ⌜ OnMemory Unit (tree.brFarAt at) (now (file .entry)) (now (ram .entry)) (now (rom .entry)) tt (now (file .exit)) (now (ram .entry)) r 4 ⌝ }
+    ensures { λ r. ⌜ Takes Unit (tree.brFarAt at) file ram rom tt r 4 ⌝ }
 {
     let g = operand::base(file, at);
     let o = operand::offset(file, at);
@@ -67,13 +66,11 @@ fn br_far_at(file: &mut [u16; 14], ram: &[u8], rom: &[u8], at: Address) -> Bus
     let ps = memory::load(true, ram, rom, g, next);
     let pc = memory::load(true, ram, rom, g, o);
     jumps::jump_far(file, ps.value, pc.value);
-    Bus {
-        cycles: ps.bus.cycles + pc.bus.cycles,
-    }
+    tally::both(ps.bus, pc.bus)
 }
 
 pub fn branch(file: &mut [u16; 14], ram: &mut [u8], rom: &[u8], i: Branch) -> Bus
-    ensures { λ r. ⌜ OnMemory Unit (tree.branch i) (now (file .entry)) (now (ram .entry)) (now (rom .entry)) tt (now (file .exit)) (now (ram .exit)) r 8 ⌝ }
+    ensures { λ r. ⌜ Does (tree.branch i) file ram rom r 8 ⌝ }
 {
     match i {
         Branch::CallNear { disp } => do_call::call_near(file, ram, rom, disp),
@@ -86,16 +83,16 @@ pub fn branch(file: &mut [u16; 14], ram: &mut [u8], rom: &[u8], i: Branch) -> Bu
         Branch::RetFarPop { size } => ret_far_pop(file, ram, rom, size),
         Branch::BrNear { disp } => {
             jumps::jump(file, disp);
-            Bus { cycles: 0 }
+            tally::none()
         }
         Branch::BrShort { disp } => {
             jumps::jump(file, disp);
-            Bus { cycles: 0 }
+            tally::none()
         }
         Branch::BrTo { to } => br_to(file, ram, rom, to),
         Branch::BrFar { ps, pc } => {
             jumps::jump_far(file, ps, pc);
-            Bus { cycles: 0 }
+            tally::none()
         }
         Branch::BrFarAt { at } => br_far_at(file, ram, rom, at),
     }

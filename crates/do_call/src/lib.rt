@@ -5,17 +5,17 @@ use sheet::Bus;
 use sheet::Place;
 ghost use Rattle.sheet.specs.declared.Place.the-variants.{Register, Memory};
 ghost use Rattle.sheet.specs.Branch as tree;
-ghost use Rattle.sheet.specs.Contract.{OnMemory};
+ghost use Rattle.tally.specs.Lent.{Does};
 
 fn push_pc(file: &mut [u16; 14], ram: &mut [u8], rom: &[u8]) -> Bus
-    ensures { λ r. ⌜ OnMemory Unit tree.pushPc (now (file .entry)) (now (ram .entry)) (now (rom .entry)) tt (now (file .exit)) (now (ram .exit)) r 2 ⌝ }
+    ensures { λ r. ⌜ Does tree.pushPc file ram rom r 2 ⌝ }
 {
     let pc = file[PC];
     traps::push(file, ram, rom, pc)
 }
 
 pub fn call_near(file: &mut [u16; 14], ram: &mut [u8], rom: &[u8], disp: u16) -> Bus
-    ensures { λ r. ⌜ OnMemory Unit (tree.callNear disp) (now (file .entry)) (now (ram .entry)) (now (rom .entry)) tt (now (file .exit)) (now (ram .exit)) r 2 ⌝ }
+    ensures { λ r. ⌜ Does (tree.callNear disp) file ram rom r 2 ⌝ }
 {
     let b = push_pc(file, ram, rom);
     jumps::jump(file, disp);
@@ -24,7 +24,7 @@ pub fn call_near(file: &mut [u16; 14], ram: &mut [u8], rom: &[u8], disp: u16) ->
 
 // CALL regptr16 reads its register after the push.
 fn call_register(file: &mut [u16; 14], ram: &mut [u8], rom: &[u8], n: u8) -> Bus
-    ensures { λ r. ⌜ OnMemory Unit (tree.callTo (Register n)) (now (file .entry)) (now (ram .entry)) (now (rom .entry)) tt (now (file .exit)) (now (ram .exit)) r 2 ⌝ }
+    ensures { λ r. ⌜ Does (tree.callTo (Register n)) file ram rom r 2 ⌝ }
 {
     let b = push_pc(file, ram, rom);
     file[PC] = registers::reg(true, file, n);
@@ -33,18 +33,16 @@ fn call_register(file: &mut [u16; 14], ram: &mut [u8], rom: &[u8], n: u8) -> Bus
 
 // CALL memptr16 reads its memory before the push.
 fn call_held(file: &mut [u16; 14], ram: &mut [u8], rom: &[u8], a: Address) -> Bus
-    ensures { λ r. ⌜ OnMemory Unit (tree.callTo (Memory a)) (now (file .entry)) (now (ram .entry)) (now (rom .entry)) tt (now (file .exit)) (now (ram .exit)) r 4 ⌝ }
+    ensures { λ r. ⌜ Does (tree.callTo (Memory a)) file ram rom r 4 ⌝ }
 {
     let v = operand::value_at(true, file, ram, rom, Place::Memory(a));
     let b = push_pc(file, ram, rom);
     file[PC] = v.value;
-    Bus {
-        cycles: v.bus.cycles + b.cycles,
-    }
+    tally::both(v.bus, b)
 }
 
 pub fn call_to(file: &mut [u16; 14], ram: &mut [u8], rom: &[u8], to: Place) -> Bus
-    ensures { λ r. ⌜ OnMemory Unit (tree.callTo to) (now (file .entry)) (now (ram .entry)) (now (rom .entry)) tt (now (file .exit)) (now (ram .exit)) r 4 ⌝ }
+    ensures { λ r. ⌜ Does (tree.callTo to) file ram rom r 4 ⌝ }
 {
     match to {
         Place::Register(n) => call_register(file, ram, rom, n),
@@ -53,7 +51,7 @@ pub fn call_to(file: &mut [u16; 14], ram: &mut [u8], rom: &[u8], to: Place) -> B
 }
 
 pub fn call_far(file: &mut [u16; 14], ram: &mut [u8], rom: &[u8], ps: u16, pc: u16) -> Bus
-    ensures { λ r. ⌜ OnMemory Unit (tree.callFar ps pc) (now (file .entry)) (now (ram .entry)) (now (rom .entry)) tt (now (file .exit)) (now (ram .exit)) r 4 ⌝ }
+    ensures { λ r. ⌜ Does (tree.callFar ps pc) file ram rom r 4 ⌝ }
 {
     let b = traps::push_ps_pc(file, ram, rom);
     jumps::jump_far(file, ps, pc);
@@ -61,11 +59,9 @@ pub fn call_far(file: &mut [u16; 14], ram: &mut [u8], rom: &[u8], ps: u16, pc: u
 }
 
 pub fn call_far_at(file: &mut [u16; 14], ram: &mut [u8], rom: &[u8], at: Address) -> Bus
-    ensures { λ r. ⌜ OnMemory Unit (tree.callFarAt at) (now (file .entry)) (now (ram .entry)) (now (rom .entry)) tt (now (file .exit)) (now (ram .exit)) r 8 ⌝ }
+    ensures { λ r. ⌜ Does (tree.callFarAt at) file ram rom r 8 ⌝ }
 {
     let p = operand::pair_at(file, ram, rom, at);
     let b = call_far(file, ram, rom, p.high, p.low);
-    Bus {
-        cycles: p.bus.cycles + b.cycles,
-    }
+    tally::both(p.bus, b)
 }

@@ -21,7 +21,7 @@ use Rattle.sheet.specs.Registers.{CW, IX, IY, DS1, PSW, AL, CL, fileOf, segment
 use Rattle.sheet.specs.Memory.{busCycles}
 use Rattle.sheet.specs.World.{world, withFile}
 use Rattle.sheet.specs.Act.{peek, poke}
-use Rattle.sheet.specs.Handler.{_⊕_, busOf}
+use Rattle.sheet.specs.Handler.{_⊕_}
 use Rattle.sheet.specs.Operand.{locate, fetch, deposit, setReg}
 use Rattle.sheet.specs.Decimal.{digits, link, begun, chained, rol4, ror4, string}
 use Rattle.sheet.specs.Contract.{OnFile, OnMemory}
@@ -29,6 +29,7 @@ use Rattle.sheet.proofs.Rules.{⊕-assoc}
 use Rattle.sheet.proofs.Lifted.{file-seq, file-pure, file-registers, file-flags, memory-seq, memory-free, memory-last, memory-at-most, memory-true, file-false}
 use Rattle.sheet.proofs.Loop.{Goes, goes-none, goes-more, goes-end}
 use Rattle.memory.specs.Accesses.{Loads, Stores}
+use Rattle.tally.specs.Sums.{Free, Costs, Joins}
 use Rattle.registers.proofs.Laws.{file-reg}
 use Rattle.decimal.proofs.RotateLaws.{set-wraps}
 use Rattle.do_decimal.specs.Both.{Both}
@@ -36,26 +37,27 @@ use Rattle.do_decimal.specs.Both.{Both}
 -- ---- one byte of the strings
 
 -- a byte takes one cycle
-one-cycle : (o : ℕ) (n : Bus) → n ≡ busOf false o → n .cycles ≤ 1
+one-cycle : (o d : ℕ) (n : Bus) → Costs false o d n → n .cycles ≤ 1
 unfolding busCycles
-one-cycle o n e = rw e (lit≤ tt)
+one-cycle o d n e = rw (e .is) (lit≤ tt)
 
 loads-byte : {ram rom : List ℕ} {g o v : ℕ} {n : Bus} → Loads false ram rom g o v n → (f : List ℕ) → OnMemory ℕ (peek false g o) f ram rom v f ram n 1
-loads-byte {o = o} {n = n} h f = record { most = one-cycle o n (h .cost .is); at = h .at f .at }
+loads-byte {o = o} {n = n} h f = record { most = one-cycle o 0 n (h .cost); fair = h .fair; at = h .at f .at }
 
 stores-byte : {ram ram′ : List ℕ} {g o v : ℕ} {n : Bus} → Stores false ram g o v ram′ n → (f rom : List ℕ) → OnMemory Unit (poke false g o v) f ram rom tt f ram′ n 1
-stores-byte {o = o} {n = n} h f rom = record { most = one-cycle o n (h .cost .is); at = h .at f rom .at }
+stores-byte {o = o} {n = n} h f rom = record { most = one-cycle o _ n (h .cost); fair = h .fair; at = h .at f rom .at }
 
-pub both-are : (f ram rom : List ℕ) (seg i g to from a b : ℕ) (n m : Bus) → to ≡ add16 (getD f IY 0) i → Loads false ram rom (getD f DS1 0) to a n → g ≡ fileOf f (segment seg)
-    → from ≡ add16 (getD f IX 0) i → Loads false ram rom g from b m → Both f ram rom seg i a b (n ⊕ m)
-both-are f ram rom seg i g to from a b n m p x z q y =
+pub both-are : (f ram rom : List ℕ) (seg i g to from a b : ℕ) (n m r : Bus) → to ≡ add16 (getD f IY 0) i → Loads false ram rom (getD f DS1 0) to a n → g ≡ fileOf f (segment seg)
+    → from ≡ add16 (getD f IX 0) i → Loads false ram rom g from b m → Joins n m r → Both f ram rom seg i a b r
+both-are f ram rom seg i g to from a b n m r p x z q y j =
     let h = loads-byte x f in
     let k = loads-byte y f in
     record {
-      most = add-le-add (h .most) (k .most);
+      most = rw (j .is) (add-le-add (h .most) (k .most));
+      fair = rw (j .is) (let a = h .fair in let b = k .fair in omega arith);
       first = n;
       second = m;
-      sum = refl;
+      sum = j .is;
       target = rw p at h;
       source = rw (z, q) at k;
     }
@@ -82,29 +84,33 @@ module _ (f ram rom : List ℕ) (sub stores : Bool) (seg i : ℕ) (c : Chain) (a
 
 -- ---- the strings
 
--- after i of n bytes, with c in hand, RAM as it then is and k cycles so far, whatever else is in the world
-pub record Turns (sub stores : Bool) (seg n : ℕ) (f ram rom : List ℕ) (i : ℕ) (c : Chain) (ram′ : List ℕ) (k : ℕ) : Type 0 where
-  pub most : k ≤ 3 * i
-  pub at : (s : State) (tape log : List ℕ) → Goes Chain (link sub stores seg) n begun (world (withFile s f) ram rom tape log) i c (world (withFile s f) ram′ rom tape log) (record { cycles = k })
+-- after i of n bytes, with c in hand, RAM as it then is and accesses that come to k, whatever else is in the world
+pub record Turns (sub stores : Bool) (seg n : ℕ) (f ram rom : List ℕ) (i : ℕ) (c : Chain) (ram′ : List ℕ) (k : Bus) : Type 0 where
+  pub most : k .cycles ≤ 3 * i
+  pub fair : k .dropped ≤ 2 * k .cycles
+  pub at : (s : State) (tape log : List ℕ) → Goes Chain (link sub stores seg) n begun (world (withFile s f) ram rom tape log) i c (world (withFile s f) ram′ rom tape log) k
 
 module _ (sub stores : Bool) (seg n : ℕ) (f ram rom : List ℕ) where
-  pub turns-none : Turns sub stores seg n f ram rom 0 begun ram 0
-  turns-none = record { most = lit≤ tt; at = λ s tape log. goes-none Chain (link sub stores seg) n begun (world (withFile s f) ram rom tape log) }
+  pub turns-none : (k : Bus) → Free k → Turns sub stores seg n f ram rom 0 begun ram k
+  turns-none k e = rw (e .is) (record { most = lit≤ tt; fair = lit≤ tt; at = λ s tape log. goes-none Chain (link sub stores seg) n begun (world (withFile s f) ram rom tape log) })
 
-  pub turns-more : (i : ℕ) (c c′ : Chain) (ram′ ram″ : List ℕ) (k : ℕ) (m : Bus) → Turns sub stores seg n f ram rom i c ram′ k → i < n
-      → OnMemory Chain (link sub stores seg i c) f ram′ rom c′ f ram″ m 3 → Turns sub stores seg n f ram rom (i + 1) (record { cy = c′ .cy; zero = c′ .zero }) ram″ (k + m .cycles)
-  turns-more i c c′ ram′ ram″ k m t l h =
-      record {
+  pub turns-more : (i : ℕ) (c c′ : Chain) (ram′ ram″ : List ℕ) (k m r : Bus) → Turns sub stores seg n f ram rom i c ram′ k → i < n
+      → OnMemory Chain (link sub stores seg i c) f ram′ rom c′ f ram″ m 3 → Joins k m r → Turns sub stores seg n f ram rom (i + 1) (record { cy = c′ .cy; zero = c′ .zero }) ram″ r
+  turns-more i c c′ ram′ ram″ k m r t l h j =
+      rw (j .is)
+      (record {
         most = (let a = t .most in let b = h .most in omega arith);
+        fair = (let a = t .fair in let b = h .fair in omega arith);
         at = λ s tape log. goes-more Chain (link sub stores seg) n _ _ i c _ _ (t .at s tape log) c′ _ m l (h .at s tape log);
-      }
+      })
 
-  pub turns-end : (i : ℕ) (c : Chain) (ram′ : List ℕ) (k : ℕ) → Turns sub stores seg n f ram rom i c ram′ k → n ≤ 128 → i ≤ n → n ≤ i
-      → OnMemory Chain (chained sub stores seg n) f ram rom c f ram′ (record { cycles = k }) 384
+  pub turns-end : (i : ℕ) (c : Chain) (ram′ : List ℕ) (k : Bus) → Turns sub stores seg n f ram rom i c ram′ k → n ≤ 128 → i ≤ n → n ≤ i
+      → OnMemory Chain (chained sub stores seg n) f ram rom c f ram′ k 384
   unfolding chained
   turns-end i c ram′ k t b l g =
       record {
         most = (let a = t .most in omega arith);
+        fair = t .fair;
         at = λ s tape log. goes-end Chain (link sub stores seg) n _ _ i c _ _ (t .at s tape log) g;
       }
 

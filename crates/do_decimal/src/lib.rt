@@ -13,7 +13,7 @@ ghost use Prim.Native.Nat.{_≤_};
 ghost use Rattle.sheet.specs.Psw.{unknown, becomes, columns, column, keeps, settled};
 ghost use Rattle.sheet.specs.Decimal as sheet;
 ghost use Rattle.sheet.specs.Execute as tree;
-ghost use Rattle.sheet.specs.Contract.{OnMemory};
+ghost use Rattle.tally.specs.Lent.{Does, Fills};
 ghost use Rattle.do_decimal.specs.Both.{Both};
 
 // What goes on to the next byte, and what the accesses so far came to.
@@ -44,9 +44,7 @@ fn read_both(file: &[u16; 14], ram: &[u8], rom: &[u8], seg: u8, i: u16) -> Bytes
     Bytes {
         to: a.value,
         from: b.value,
-        bus: Bus {
-            cycles: a.bus.cycles + b.bus.cycles,
-        },
+        bus: tally::both(a.bus, b.bus),
     }
 }
 
@@ -61,7 +59,7 @@ fn link(
     i: u16,
     c: Chain,
 ) -> Linked
-    ensures { λ r. ⌜ OnMemory Chain (sheet.link sub stores seg i c) (now (file .entry)) (now (ram .entry)) (now (rom .entry)) (r .chain) (now (file .entry)) (now (ram .exit)) (r .bus) 3 ⌝ }
+    ensures { λ r. ⌜ Fills Chain (sheet.link sub stores seg i c) file ram rom (r .chain) (r .bus) 3 ⌝ }
 {
     let x = read_both(file, ram, rom, seg, i);
     let d = decimal::digits(sub, x.to, x.from, c.cy);
@@ -74,9 +72,7 @@ fn link(
         let n = memory::store(false, ram, file[DS1], word::plus16(file[IY], i), d.value);
         return Linked {
             chain,
-            bus: Bus {
-                cycles: bus.cycles + n.cycles,
-            },
+            bus: tally::both(bus, n),
         };
     }
     Linked { chain, bus }
@@ -93,22 +89,22 @@ fn chained(
     last: u16,
 ) -> Linked
     requires { ⌜ last ≤ 128 ⌝ }
-    ensures { λ r. ⌜ OnMemory Chain (sheet.chained sub stores seg last) (now (file .entry)) (now (ram .entry)) (now (rom .entry)) (r .chain) (now (file .entry)) (now (ram .exit)) (r .bus) 384 ⌝ }
+    ensures { λ r. ⌜ Fills Chain (sheet.chained sub stores seg last) file ram rom (r .chain) (r .bus) 384 ⌝ }
 {
     let mut i: u16 = 0;
     let mut cy = false;
     let mut zero = true;
-    let mut cycles: u32 = 0;
+    let mut t = tally::none();
     while i < last {
         let l = link(file, ram, rom, sub, stores, seg, i, Chain { cy, zero });
         cy = l.chain.cy;
         zero = l.chain.zero;
-        cycles = cycles + l.bus.cycles;
+        t = tally::both(t, l.bus);
         i = i + 1;
     }
     Linked {
         chain: Chain { cy, zero },
-        bus: Bus { cycles },
+        bus: t,
     }
 }
 
@@ -122,7 +118,7 @@ fn string_psw(c: Chain, psw: u16) -> u16
 
 // ADD4S, SUB4S where `sub`, and CMP4S where besides it does not store.
 fn string(file: &mut [u16; 14], ram: &mut [u8], rom: &[u8], sub: bool, stores: bool, seg: u8) -> Bus
-    ensures { λ r. ⌜ OnMemory Unit (sheet.string sub stores seg) (now (file .entry)) (now (ram .entry)) (now (rom .entry)) tt (now (file .exit)) (now (ram .exit)) r 384 ⌝ }
+    ensures { λ r. ⌜ Does (sheet.string sub stores seg) file ram rom r 384 ⌝ }
 {
     let digits = file[CW] % 256;
     let l = chained(file, ram, rom, sub, stores, seg, (digits + 1) / 2);
@@ -131,7 +127,7 @@ fn string(file: &mut [u16; 14], ram: &mut [u8], rom: &[u8], sub: bool, stores: b
 }
 
 fn rol4(file: &mut [u16; 14], ram: &mut [u8], rom: &[u8], to: Place) -> Bus
-    ensures { λ r. ⌜ OnMemory Unit (sheet.rol4 to) (now (file .entry)) (now (ram .entry)) (now (rom .entry)) tt (now (file .exit)) (now (ram .exit)) r 4 ⌝ }
+    ensures { λ r. ⌜ Does (sheet.rol4 to) file ram rom r 4 ⌝ }
 {
     let al = registers::reg(false, file, 0);
     let spot = operand::locate(file, to);
@@ -139,13 +135,11 @@ fn rol4(file: &mut [u16; 14], ram: &mut [u8], rom: &[u8], to: Place) -> Bus
     let y = decimal::rol4(x.value, al);
     let b = operand::deposit(false, file, ram, rom, spot, y);
     registers::set_reg(false, file, 0, decimal::rol4_al(x.value, al));
-    Bus {
-        cycles: x.bus.cycles + b.cycles,
-    }
+    tally::both(x.bus, b)
 }
 
 fn ror4(file: &mut [u16; 14], ram: &mut [u8], rom: &[u8], to: Place) -> Bus
-    ensures { λ r. ⌜ OnMemory Unit (sheet.ror4 to) (now (file .entry)) (now (ram .entry)) (now (rom .entry)) tt (now (file .exit)) (now (ram .exit)) r 4 ⌝ }
+    ensures { λ r. ⌜ Does (sheet.ror4 to) file ram rom r 4 ⌝ }
 {
     let al = registers::reg(false, file, 0);
     let spot = operand::locate(file, to);
@@ -153,13 +147,11 @@ fn ror4(file: &mut [u16; 14], ram: &mut [u8], rom: &[u8], to: Place) -> Bus
     let y = decimal::ror4(x.value, al);
     let b = operand::deposit(false, file, ram, rom, spot, y);
     registers::set_reg(false, file, 0, decimal::ror4_al(x.value, al));
-    Bus {
-        cycles: x.bus.cycles + b.cycles,
-    }
+    tally::both(x.bus, b)
 }
 
 pub fn decimal(file: &mut [u16; 14], ram: &mut [u8], rom: &[u8], i: Decimal) -> Bus
-    ensures { λ r. ⌜ OnMemory Unit (tree.decimal i) (now (file .entry)) (now (ram .entry)) (now (rom .entry)) tt (now (file .exit)) (now (ram .exit)) r 384 ⌝ }
+    ensures { λ r. ⌜ Does (tree.decimal i) file ram rom r 384 ⌝ }
 {
     match i {
         Decimal::Add4s { seg } => string(file, ram, rom, false, true, seg),

@@ -13,7 +13,8 @@ ghost use Rattle.sheet.specs.Width.{pick, add16};
 ghost use Rattle.sheet.specs.Registers.{fileOf};
 ghost use Rattle.sheet.specs.Fields as sheet;
 ghost use Rattle.sheet.specs.Execute as tree;
-ghost use Rattle.sheet.specs.Contract.{OnFile, OnMemory};
+ghost use Rattle.sheet.specs.Contract.{OnFile};
+ghost use Rattle.tally.specs.Lent.{Does, Fills, Finds, Takes};
 
 // The length's code, of which the low 4 bits count.
 fn code(file: &[u16; 14], length: Length) -> u16
@@ -50,21 +51,19 @@ fn advance(file: &mut [u16; 14], offset: u8, index: usize, sum: u16)
 
 // What of the field goes into the first word.
 fn first_part(file: &[u16; 14], ram: &mut [u8], rom: &[u8], offset: u16, code: u16) -> Bus
-    ensures { λ r. ⌜ OnMemory Unit (sheet.firstPart (fileOf (now (file .entry))) (offset % 16) (code % 16 + 1)) (now (file .entry)) (now (ram .entry)) (now (rom .entry)) tt (now (file .entry)) (now (ram .exit)) r 4 ⌝ }
+    ensures { λ r. ⌜ Fills Unit (sheet.firstPart (fileOf (now (file .entry))) (offset % 16) (code % 16 + 1)) file ram rom tt r 4 ⌝ }
 {
     let base = file[DS1];
     let at = file[IY];
     let x = memory::load(true, ram, rom, base, at);
     let y = field::first(x.value, offset, code, file[AW]);
     let b = memory::store(true, ram, base, at, y);
-    Bus {
-        cycles: x.bus.cycles + b.cycles,
-    }
+    tally::both(x.bus, b)
 }
 
 // What goes into the second, which is not touched where nothing does.
 fn second_part(file: &[u16; 14], ram: &mut [u8], rom: &[u8], offset: u16, code: u16) -> Bus
-    ensures { λ r. ⌜ OnMemory Unit (sheet.secondPart (fileOf (now (file .entry))) (offset % 16) (code % 16 + 1)) (now (file .entry)) (now (ram .entry)) (now (rom .entry)) tt (now (file .entry)) (now (ram .exit)) r 4 ⌝ }
+    ensures { λ r. ⌜ Fills Unit (sheet.secondPart (fileOf (now (file .entry))) (offset % 16) (code % 16 + 1)) file ram rom tt r 4 ⌝ }
 {
     if 16 < end(offset, code) {
         let base = file[DS1];
@@ -72,24 +71,20 @@ fn second_part(file: &[u16; 14], ram: &mut [u8], rom: &[u8], offset: u16, code: 
         let x = memory::load(true, ram, rom, base, at);
         let y = field::second(x.value, offset, code, file[AW]);
         let b = memory::store(true, ram, base, at, y);
-        return Bus {
-            cycles: x.bus.cycles + b.cycles,
-        };
+        return tally::both(x.bus, b);
     }
-    Bus { cycles: 0 }
+    tally::none()
 }
 
 fn ins(file: &mut [u16; 14], ram: &mut [u8], rom: &[u8], offset: u8, length: Length) -> Bus
-    ensures { λ r. ⌜ OnMemory Unit (sheet.ins offset length) (now (file .entry)) (now (ram .entry)) (now (rom .entry)) tt (now (file .exit)) (now (ram .exit)) r 8 ⌝ }
+    ensures { λ r. ⌜ Does (sheet.ins offset length) file ram rom r 8 ⌝ }
 {
     let o = registers::reg(false, file, offset);
     let n = code(file, length);
     let a = first_part(file, ram, rom, o, n);
     let b = second_part(file, ram, rom, o, n);
     advance(file, offset, IY, end(o, n));
-    Bus {
-        cycles: a.cycles + b.cycles,
-    }
+    tally::both(a, b)
 }
 
 // One word of memory or two, and what reading came to.
@@ -100,7 +95,7 @@ struct Words {
 
 // The word at an offset and, where `both`, the next one above it.
 fn window(file: &[u16; 14], ram: &[u8], rom: &[u8], base: u16, offset: u16, both: bool) -> Words
-    ensures { λ r. ⌜ OnMemory ℕ (sheet.window base offset both) (now (file .entry)) (now (ram .entry)) (now (rom .entry)) (r .bits) (now (file .entry)) (now (ram .entry)) (r .bus) 4 ⌝ }
+    ensures { λ r. ⌜ Finds ℕ (sheet.window base offset both) file ram rom (r .bits) (r .bus) 4 ⌝ }
 {
     let low = memory::load(true, ram, rom, base, offset);
     if both {
@@ -108,9 +103,7 @@ fn window(file: &[u16; 14], ram: &[u8], rom: &[u8], base: u16, offset: u16, both
         let high = memory::load(true, ram, rom, base, next);
         return Words {
             bits: low.value as u32 + 65536 * (high.value as u32),
-            bus: Bus {
-                cycles: low.bus.cycles + high.bus.cycles,
-            },
+            bus: tally::both(low.bus, high.bus),
         };
     }
     let bus = low.bus;
@@ -121,7 +114,7 @@ fn window(file: &[u16; 14], ram: &[u8], rom: &[u8], base: u16, offset: u16, both
 }
 
 fn ext(file: &mut [u16; 14], ram: &[u8], rom: &[u8], seg: u8, offset: u8, length: Length) -> Bus
-    ensures { λ r. ⌜ OnMemory Unit (sheet.ext seg offset length) (now (file .entry)) (now (ram .entry)) (now (rom .entry)) tt (now (file .exit)) (now (ram .entry)) r 8 ⌝ }
+    ensures { λ r. ⌜ Takes Unit (sheet.ext seg offset length) file ram rom tt r 8 ⌝ }
 {
     let o = registers::reg(false, file, offset);
     let n = code(file, length);
@@ -135,7 +128,7 @@ fn ext(file: &mut [u16; 14], ram: &[u8], rom: &[u8], seg: u8, offset: u8, length
 }
 
 pub fn field(file: &mut [u16; 14], ram: &mut [u8], rom: &[u8], i: Field) -> Bus
-    ensures { λ r. ⌜ OnMemory Unit (tree.field i) (now (file .entry)) (now (ram .entry)) (now (rom .entry)) tt (now (file .exit)) (now (ram .exit)) r 8 ⌝ }
+    ensures { λ r. ⌜ Does (tree.field i) file ram rom r 8 ⌝ }
 {
     match i {
         Field::Ins { offset, length } => ins(file, ram, rom, offset, length),

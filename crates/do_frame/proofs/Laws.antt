@@ -32,11 +32,12 @@ pointer-is f g ram ram′ rom bp ss v n m e q h k =
 -- i of n pointers are copied, from f and ram to g and ram′; the accesses come to c
 pub record Copies (n : ℕ) (f ram rom : List ℕ) (i : ℕ) (g ram′ : List ℕ) (c : Bus) : Type 0 where
   pub most : c .cycles ≤ 4 * i
+  pub fair : c .dropped ≤ 2 * c .cycles
   pub at : (s : State) (tape log : List ℕ)
       → Goes Unit frame n tt (world (withFile s f) ram rom tape log) i tt (world (withFile s g) ram′ rom tape log) c
 
 pub copies-none : (n : ℕ) (f ram rom : List ℕ) (c : Bus) → Free c → Copies n f ram rom 0 f ram c
-copies-none n f ram rom c e = rw (e .is) (record { most = lit≤ tt; at = λ s tape log. goes-none Unit frame n tt (world (withFile s f) ram rom tape log) })
+copies-none n f ram rom c e = rw (e .is) (record { most = lit≤ tt; fair = lit≤ tt; at = λ s tape log. goes-none Unit frame n tt (world (withFile s f) ram rom tape log) })
 
 module _ (n : ℕ) (f ram rom : List ℕ) (i : ℕ) (g ram₁ : List ℕ) (c : Bus) (p : Copies n f ram rom i g ram₁ c) where
   -- which turn it is makes no difference to a turn
@@ -46,11 +47,12 @@ module _ (n : ℕ) (f ram rom : List ℕ) (i : ℕ) (g ram₁ : List ℕ) (c : B
       rw (j .is)
       (record {
         most = (let m = p .most in let t = k .most in omega arith);
+        fair = (let m = p .fair in let t = k .fair in omega arith);
         at = λ s tape log. goes-more Unit frame n tt _ i tt _ _ (p .at s tape log) tt _ b q (k .at s tape log);
       })
 
   pub copies-end : n ≤ i → i ≤ n → n ≤ 254 → OnMemory Unit (loop frame n 0 tt) f ram rom tt g ram₁ c 1016
-  copies-end q r z = record { most = (let m = p .most in omega arith); at = λ s tape log. goes-end Unit frame n tt _ i tt _ _ (p .at s tape log) q }
+  copies-end q r z = record { most = (let m = p .most in omega arith); fair = p .fair; at = λ s tape log. goes-end Unit frame n tt _ i tt _ _ (p .at s tape log) q }
 
 -- ---- the rest
 

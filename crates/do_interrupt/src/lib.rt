@@ -12,10 +12,10 @@ ghost use lib.Signed.{ltZ};
 ghost use Rattle.sheet.specs.Width.{signedOf};
 ghost use Rattle.sheet.specs.Interrupts as tree;
 ghost use Rattle.sheet.specs.Traps.{untrapped};
-ghost use Rattle.sheet.specs.Contract.{OnMemory};
+ghost use Rattle.tally.specs.Lent.{Gives, Takes};
 
 fn brk(file: &mut [u16; 14], ram: &mut [u8], rom: &[u8], v: u8) -> Worked
-    ensures { λ r. ⌜ OnMemory Bool (tree.brk v) (now (file .entry)) (now (ram .entry)) (now (rom .entry)) (r .trapped) (now (file .exit)) (now (ram .exit)) (r .bus) 8 ⌝ }
+    ensures { λ r. ⌜ Gives Bool (tree.brk v) file ram rom (r .trapped) (r .bus) 8 ⌝ }
 {
     let b = traps::trap(file, ram, rom, v);
     Worked {
@@ -25,26 +25,26 @@ fn brk(file: &mut [u16; 14], ram: &mut [u8], rom: &[u8], v: u8) -> Worked
 }
 
 fn trap_if(file: &mut [u16; 14], ram: &mut [u8], rom: &[u8], b: bool, v: u8) -> Worked
-    ensures { λ r. ⌜ OnMemory Bool (tree.trapIf b v) (now (file .entry)) (now (ram .entry)) (now (rom .entry)) (r .trapped) (now (file .exit)) (now (ram .exit)) (r .bus) 8 ⌝ }
+    ensures { λ r. ⌜ Gives Bool (tree.trapIf b v) file ram rom (r .trapped) (r .bus) 8 ⌝ }
 {
     if b {
         return brk(file, ram, rom, v);
     }
     Worked {
         trapped: false,
-        bus: Bus { cycles: 0 },
+        bus: tally::none(),
     }
 }
 
 fn brkv(file: &mut [u16; 14], ram: &mut [u8], rom: &[u8]) -> Worked
-    ensures { λ r. ⌜ OnMemory Bool tree.brkv (now (file .entry)) (now (ram .entry)) (now (rom .entry)) (r .trapped) (now (file .exit)) (now (ram .exit)) (r .bus) 8 ⌝ }
+    ensures { λ r. ⌜ Gives Bool tree.brkv file ram rom (r .trapped) (r .bus) 8 ⌝ }
 {
     let b = flags::v(file[PSW]);
     trap_if(file, ram, rom, b, 4)
 }
 
 fn reti(file: &mut [u16; 14], ram: &[u8], rom: &[u8]) -> Worked
-    ensures { λ r. ⌜ OnMemory Bool (untrapped tree.reti) (now (file .entry)) (now (ram .entry)) (now (rom .entry)) (r .trapped) (now (file .exit)) (now (ram .entry)) (r .bus) 6 ⌝ }
+    ensures { λ r. ⌜ Takes Bool (untrapped tree.reti) file ram rom (r .trapped) (r .bus) 6 ⌝ }
 {
     let pc = traps::pop(file, ram, rom);
     let ps = traps::pop(file, ram, rom);
@@ -54,9 +54,7 @@ fn reti(file: &mut [u16; 14], ram: &[u8], rom: &[u8]) -> Worked
     file[PSW] = psw::restore(x.value);
     Worked {
         trapped: false,
-        bus: Bus {
-            cycles: pc.bus.cycles + (ps.bus.cycles + x.bus.cycles),
-        },
+        bus: tally::three(pc.bus, ps.bus, x.bus),
     }
 }
 
@@ -74,7 +72,7 @@ fn outside(v: u16, low: u16, high: u16) -> bool
 }
 
 fn chkind(file: &mut [u16; 14], ram: &mut [u8], rom: &[u8], reg: u8, from: Address) -> Worked
-    ensures { λ r. ⌜ OnMemory Bool (tree.chkind reg from) (now (file .entry)) (now (ram .entry)) (now (rom .entry)) (r .trapped) (now (file .exit)) (now (ram .exit)) (r .bus) 12 ⌝ }
+    ensures { λ r. ⌜ Gives Bool (tree.chkind reg from) file ram rom (r .trapped) (r .bus) 12 ⌝ }
 {
     let p = operand::pair_at(file, ram, rom, from);
     let v = registers::reg(true, file, reg);
@@ -82,14 +80,12 @@ fn chkind(file: &mut [u16; 14], ram: &mut [u8], rom: &[u8], reg: u8, from: Addre
     let t = trap_if(file, ram, rom, b, 5);
     Worked {
         trapped: t.trapped,
-        bus: Bus {
-            cycles: p.bus.cycles + t.bus.cycles,
-        },
+        bus: tally::both(p.bus, t.bus),
     }
 }
 
 pub fn interrupt(file: &mut [u16; 14], ram: &mut [u8], rom: &[u8], i: Interrupt) -> Worked
-    ensures { λ r. ⌜ OnMemory Bool (tree.interrupts i) (now (file .entry)) (now (ram .entry)) (now (rom .entry)) (r .trapped) (now (file .exit)) (now (ram .exit)) (r .bus) 12 ⌝ }
+    ensures { λ r. ⌜ Gives Bool (tree.interrupts i) file ram rom (r .trapped) (r .bus) 12 ⌝ }
 {
     match i {
         Interrupt::Brk3 => brk(file, ram, rom, 3),

@@ -13,7 +13,8 @@ ghost use mathlib.Core.Bool.{Bool};
 ghost use Rattle.sheet.specs.Registers.{fileOf};
 ghost use Rattle.sheet.specs.Multiply as sheet;
 ghost use Rattle.sheet.specs.Execute as tree;
-ghost use Rattle.sheet.specs.Contract.{OnFile, OnMemory};
+ghost use Rattle.sheet.specs.Contract.{OnFile};
+ghost use Rattle.tally.specs.Lent.{Gives, Takes};
 ghost use Rattle.do_multiply.specs.Within.{Held, Within};
 
 // A product of bytes goes to AW, one of words to DW and AW.
@@ -34,7 +35,7 @@ fn multiplied(file: &mut [u16; 14], word: bool, p: Product)
 }
 
 fn mulu(file: &mut [u16; 14], ram: &[u8], rom: &[u8], word: bool, by: Place) -> Bus
-    ensures { λ r. ⌜ OnMemory Unit (sheet.mulu word by) (now (file .entry)) (now (ram .entry)) (now (rom .entry)) tt (now (file .exit)) (now (ram .entry)) r 2 ⌝ }
+    ensures { λ r. ⌜ Takes Unit (sheet.mulu word by) file ram rom tt r 2 ⌝ }
 {
     let b = operand::value_at(word, file, ram, rom, by);
     let a = registers::reg(word, file, 0);
@@ -44,7 +45,7 @@ fn mulu(file: &mut [u16; 14], ram: &[u8], rom: &[u8], word: bool, by: Place) -> 
 }
 
 fn mul(file: &mut [u16; 14], ram: &[u8], rom: &[u8], word: bool, by: Place) -> Bus
-    ensures { λ r. ⌜ OnMemory Unit (sheet.mul word by) (now (file .entry)) (now (ram .entry)) (now (rom .entry)) tt (now (file .exit)) (now (ram .entry)) r 2 ⌝ }
+    ensures { λ r. ⌜ Takes Unit (sheet.mul word by) file ram rom tt r 2 ⌝ }
 {
     let b = operand::value_at(word, file, ram, rom, by);
     let a = registers::reg(word, file, 0);
@@ -55,7 +56,7 @@ fn mul(file: &mut [u16; 14], ram: &[u8], rom: &[u8], word: bool, by: Place) -> B
 
 // MUL with an immediate: the lower 16 bits alone.
 fn mul_by(file: &mut [u16; 14], ram: &[u8], rom: &[u8], reg: u8, from: Place, by: u16) -> Bus
-    ensures { λ r. ⌜ OnMemory Unit (sheet.mulBy reg from by) (now (file .entry)) (now (ram .entry)) (now (rom .entry)) tt (now (file .exit)) (now (ram .entry)) r 2 ⌝ }
+    ensures { λ r. ⌜ Takes Unit (sheet.mulBy reg from by) file ram rom tt r 2 ⌝ }
 {
     let a = operand::value_at(true, file, ram, rom, from);
     let p = multiply::signed_product(true, a.value, by);
@@ -91,7 +92,7 @@ fn set_quotient(file: &mut [u16; 14], word: bool, quotient: u16, remainder: u16)
 // The quotient and the remainder in their registers, or the trap to vector 0; the flags are undefined after it.
 fn divided(file: &mut [u16; 14], ram: &mut [u8], rom: &[u8], word: bool, d: Divided) -> Worked
     requires { ⌜ Within word d ⌝ }
-    ensures { λ r. ⌜ OnMemory Bool (sheet.divided word d) (now (file .entry)) (now (ram .entry)) (now (rom .entry)) (r .trapped) (now (file .exit)) (now (ram .exit)) (r .bus) 8 ⌝ }
+    ensures { λ r. ⌜ Gives Bool (sheet.divided word d) file ram rom (r .trapped) (r .bus) 8 ⌝ }
 {
     match d {
         Divided::Quotient {
@@ -102,7 +103,7 @@ fn divided(file: &mut [u16; 14], ram: &mut [u8], rom: &[u8], word: bool, d: Divi
             file[PSW] = psw::restore(file[PSW]);
             Worked {
                 trapped: false,
-                bus: Bus { cycles: 0 },
+                bus: tally::none(),
             }
         }
         Divided::Trap => {
@@ -117,7 +118,7 @@ fn divided(file: &mut [u16; 14], ram: &mut [u8], rom: &[u8], word: bool, d: Divi
 }
 
 fn divu(file: &mut [u16; 14], ram: &mut [u8], rom: &[u8], word: bool, by: Place) -> Worked
-    ensures { λ r. ⌜ OnMemory Bool (sheet.divu word by) (now (file .entry)) (now (ram .entry)) (now (rom .entry)) (r .trapped) (now (file .exit)) (now (ram .exit)) (r .bus) 10 ⌝ }
+    ensures { λ r. ⌜ Gives Bool (sheet.divu word by) file ram rom (r .trapped) (r .bus) 10 ⌝ }
 {
     let b = operand::value_at(word, file, ram, rom, by);
     let a = dividend(word, file);
@@ -125,14 +126,12 @@ fn divu(file: &mut [u16; 14], ram: &mut [u8], rom: &[u8], word: bool, by: Place)
     let w = divided(file, ram, rom, word, d);
     Worked {
         trapped: w.trapped,
-        bus: Bus {
-            cycles: b.bus.cycles + w.bus.cycles,
-        },
+        bus: tally::both(b.bus, w.bus),
     }
 }
 
 fn div(file: &mut [u16; 14], ram: &mut [u8], rom: &[u8], word: bool, by: Place) -> Worked
-    ensures { λ r. ⌜ OnMemory Bool (sheet.div word by) (now (file .entry)) (now (ram .entry)) (now (rom .entry)) (r .trapped) (now (file .exit)) (now (ram .exit)) (r .bus) 10 ⌝ }
+    ensures { λ r. ⌜ Gives Bool (sheet.div word by) file ram rom (r .trapped) (r .bus) 10 ⌝ }
 {
     let b = operand::value_at(word, file, ram, rom, by);
     let a = dividend(word, file);
@@ -140,14 +139,12 @@ fn div(file: &mut [u16; 14], ram: &mut [u8], rom: &[u8], word: bool, by: Place) 
     let w = divided(file, ram, rom, word, d);
     Worked {
         trapped: w.trapped,
-        bus: Bus {
-            cycles: b.bus.cycles + w.bus.cycles,
-        },
+        bus: tally::both(b.bus, w.bus),
     }
 }
 
 pub fn multiply(file: &mut [u16; 14], ram: &mut [u8], rom: &[u8], i: Multiply) -> Worked
-    ensures { λ r. ⌜ OnMemory Bool (tree.multiply i) (now (file .entry)) (now (ram .entry)) (now (rom .entry)) (r .trapped) (now (file .exit)) (now (ram .exit)) (r .bus) 10 ⌝ }
+    ensures { λ r. ⌜ Gives Bool (tree.multiply i) file ram rom (r .trapped) (r .bus) 10 ⌝ }
 {
     match i {
         Multiply::Mulu { word, by } => Worked {

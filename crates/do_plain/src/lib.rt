@@ -3,16 +3,16 @@ use sheet::Bus;
 use sheet::Compute;
 use sheet::Move;
 ghost use Rattle.sheet.specs.Execute.{computing, moving};
-ghost use Rattle.sheet.specs.Contract.{OnMemory};
+ghost use Rattle.tally.specs.Lent.{Does};
 
 pub fn compute(file: &mut [u16; 14], ram: &mut [u8], rom: &[u8], i: Compute) -> Bus
-    ensures { λ r. ⌜ OnMemory Unit (computing i) (now (file .entry)) (now (ram .entry)) (now (rom .entry)) tt (now (file .exit)) (now (ram .exit)) r 384 ⌝ }
+    ensures { λ r. ⌜ Does (computing i) file ram rom r 384 ⌝ }
 {
     match i {
         Compute::Calculates(t) => do_arith::calculate(file, ram, rom, t),
         Compute::Converts(t) => {
             do_convert::convert(file, t);
-            Bus { cycles: 0 }
+            tally::none()
         }
         Compute::Shifts {
             kind,
@@ -32,7 +32,7 @@ pub fn compute(file: &mut [u16; 14], ram: &mut [u8], rom: &[u8], i: Compute) -> 
 }
 
 pub fn moves(file: &mut [u16; 14], ram: &mut [u8], rom: &[u8], i: Move) -> Bus
-    ensures { λ r. ⌜ OnMemory Unit (moving i) (now (file .entry)) (now (ram .entry)) (now (rom .entry)) tt (now (file .exit)) (now (ram .exit)) r 1020 ⌝ }
+    ensures { λ r. ⌜ Does (moving i) file ram rom r 1020 ⌝ }
 {
     match i {
         Move::Transfers(t) => do_move::transfer(file, ram, rom, t),
@@ -40,7 +40,7 @@ pub fn moves(file: &mut [u16; 14], ram: &mut [u8], rom: &[u8], i: Move) -> Bus
         Move::Branches(t) => do_branch::branch(file, ram, rom, t),
         Move::Tests(t) => {
             do_conditional::conditional(file, t);
-            Bus { cycles: 0 }
+            tally::none()
         }
     }
 }

@@ -8,7 +8,7 @@ use sheet::Shift;
 use sheet::Spot;
 ghost use Rattle.sheet.specs.declared.Places.the-variants.{One, Counted};
 ghost use Rattle.sheet.specs.Shift as tree;
-ghost use Rattle.sheet.specs.Contract.{OnMemory};
+ghost use Rattle.tally.specs.Lent.{Does};
 
 // The forms whose count is the fixed 1.
 fn by_one(
@@ -19,7 +19,7 @@ fn by_one(
     word: bool,
     to: Place,
 ) -> Bus
-    ensures { λ r. ⌜ OnMemory Unit (tree.shift kind word to One) (now (file .entry)) (now (ram .entry)) (now (rom .entry)) tt (now (file .exit)) (now (ram .exit)) r 4 ⌝ }
+    ensures { λ r. ⌜ Does (tree.shift kind word to One) file ram rom r 4 ⌝ }
 {
     let spot = operand::locate(file, to);
     let x = operand::fetch(word, file, ram, rom, spot);
@@ -27,9 +27,7 @@ fn by_one(
     let y = shift::shift_one(kind, word, x.value, cy, file[PSW]);
     file[PSW] = y.psw;
     let b = operand::deposit(word, file, ram, rom, spot, y.value);
-    Bus {
-        cycles: x.bus.cycles + b.cycles,
-    }
+    tally::both(x.bus, b)
 }
 
 // x by a count; 0 changes no flag, and x is written all the same.
@@ -43,7 +41,7 @@ fn by_count(
     x: u16,
     n: u8,
 ) -> Bus
-    ensures { λ r. ⌜ OnMemory Unit (tree.shiftBy kind word spot x n) (now (file .entry)) (now (ram .entry)) (now (rom .entry)) tt (now (file .exit)) (now (ram .exit)) r 2 ⌝ }
+    ensures { λ r. ⌜ Does (tree.shiftBy kind word spot x n) file ram rom r 2 ⌝ }
 {
     if n < 1 {
         return operand::deposit(word, file, ram, rom, spot, x);
@@ -63,15 +61,13 @@ fn by_amount(
     to: Place,
     count: Amount,
 ) -> Bus
-    ensures { λ r. ⌜ OnMemory Unit (tree.shift kind word to (Counted count)) (now (file .entry)) (now (ram .entry)) (now (rom .entry)) tt (now (file .exit)) (now (ram .exit)) r 4 ⌝ }
+    ensures { λ r. ⌜ Does (tree.shift kind word to (Counted count)) file ram rom r 4 ⌝ }
 {
     let n = operand::amount(file, count);
     let spot = operand::locate(file, to);
     let x = operand::fetch(word, file, ram, rom, spot);
     let b = by_count(file, ram, rom, kind, word, spot, x.value, n);
-    Bus {
-        cycles: x.bus.cycles + b.cycles,
-    }
+    tally::both(x.bus, b)
 }
 
 pub fn shift(
@@ -83,7 +79,7 @@ pub fn shift(
     to: Place,
     places: Places,
 ) -> Bus
-    ensures { λ r. ⌜ OnMemory Unit (tree.shift kind word to places) (now (file .entry)) (now (ram .entry)) (now (rom .entry)) tt (now (file .exit)) (now (ram .exit)) r 4 ⌝ }
+    ensures { λ r. ⌜ Does (tree.shift kind word to places) file ram rom r 4 ⌝ }
 {
     match places {
         Places::One => by_one(file, ram, rom, kind, word, to),

@@ -53,4 +53,4 @@ module _ (k : Primitive) (w : Bool) (seg : ℕ) (q : Repeat) (start : ℕ) (d : 
 
   pub due-memory : {f ram rom g ram′ : List ℕ} {n : Bus} {t : ℕ} → d ≡ dueOf (getD f CW 0) q → OnMemory Unit (dueTree d k w seg q start) f ram rom tt g ram′ n t
       → OnMemory Unit (block k w seg q start) f ram rom tt g ram′ n t
-  due-memory e h = record { most = h .most; at = λ s tape log. due-ends e (h .at s tape log) }
+  due-memory e h = record { most = h .most; fair = h .fair; at = λ s tape log. due-ends e (h .at s tape log) }

@@ -2,10 +2,9 @@
 use sheet::Bus;
 ghost use mathlib.Core.Path.{_≡_};
 ghost use Prim.Native.Nat.{_<_};
-ghost use lib.ListN.{set};
 ghost use Rattle.sheet.specs.Width.{modOf};
-ghost use Rattle.sheet.specs.Memory.{physical, byteAt, readMem, writeMem};
-ghost use Rattle.memory.specs.Accesses.{Loads, Stores};
+ghost use Rattle.sheet.specs.Memory.{physical, byteAt, readMem};
+ghost use Rattle.memory.specs.Accesses.{Lands, Missed, Writes, Loads, Stores};
 
 // The address of an offset in a segment.
 pub fn address(base: u16, offset: u16) -> usize
@@ -28,14 +27,23 @@ pub fn read_byte(ram: &[u8], rom: &[u8], base: u16, offset: u16) -> u8
     255
 }
 
-// Writes a byte; outside RAM the write is dropped.
-pub fn write_byte(ram: &mut [u8], base: u16, offset: u16, v: u8)
-    ensures { λ _. ⌜ now (ram .exit) ≡ set (now (ram .entry)) (physical base offset) v ⌝ }
+// Writes a byte, and says whether it landed; outside RAM the write is dropped.
+pub fn write_byte(ram: &mut [u8], base: u16, offset: u16, v: u8) -> bool
+    ensures { λ r. ⌜ Lands (now (ram .entry)) (physical base offset) v (now (ram .exit)) r ⌝ }
 {
     let a = address(base, offset);
     if a < ram.len() {
         ram[a] = v;
+        return true;
     }
+    false
+}
+
+// A byte that did not land, as a number.
+fn missed(landed: bool) -> u32
+    ensures { λ r. ⌜ Missed landed r ⌝ }
+{
+    if landed { 0 } else { 1 }
 }
 
 // A byte, or a word with its low byte first.
@@ -50,14 +58,16 @@ pub fn read(word: bool, ram: &[u8], rom: &[u8], base: u16, offset: u16) -> u16
     low
 }
 
-pub fn write(word: bool, ram: &mut [u8], base: u16, offset: u16, v: u16)
-    ensures { λ _. ⌜ now (ram .exit) ≡ writeMem word (now (ram .entry)) base offset v ⌝ }
+// How many of its bytes were dropped.
+pub fn write(word: bool, ram: &mut [u8], base: u16, offset: u16, v: u16) -> u32
+    ensures { λ r. ⌜ Writes word (now (ram .entry)) base offset v (now (ram .exit)) r ⌝ }
 {
-    write_byte(ram, base, offset, (v % 256) as u8);
+    let low = missed(write_byte(ram, base, offset, (v % 256) as u8));
     if word {
         let next = std::num::wrapping_add_u16(offset, 1);
-        write_byte(ram, base, next, (v / 256 % 256) as u8);
+        return low + missed(write_byte(ram, base, next, (v / 256 % 256) as u8));
     }
+    low
 }
 
 // A number that was read, and what reading it came to on the bus.
@@ -78,6 +88,6 @@ pub fn load(word: bool, ram: &[u8], rom: &[u8], base: u16, offset: u16) -> Loade
 pub fn store(word: bool, ram: &mut [u8], base: u16, offset: u16, v: u16) -> Bus
     ensures { λ r. ⌜ Stores word (now (ram .entry)) base offset v (now (ram .exit)) r ⌝ }
 {
-    write(word, ram, base, offset, v);
-    tally::of_access(word, offset)
+    let dropped = write(word, ram, base, offset, v);
+    tally::of_write(word, offset, dropped)
 }

@@ -13,7 +13,7 @@ use Rattle.sheet.specs.declared.State.{State}
 use Rattle.sheet.specs.Width.{pick, bytesOf, wrapOf}
 use Rattle.sheet.specs.Psw.{Flag, Effect, Choice, fixedOf, flagOf, settled}
 use Rattle.sheet.specs.Registers.{PSW, fileOf, written}
-use Rattle.sheet.specs.Memory.{physical, next, readMem, writeMem}
+use Rattle.sheet.specs.Memory.{physical, next, readMem, writeMem, lostBytes}
 use Rattle.sheet.specs.Log.{rule, keyOf, recordBytes, writeLog}
 use Rattle.sheet.specs.World.{World, world, withState, withRam, pswOf, withFile, withPsw, withHalted, recorded}
 use Rattle.sheet.specs.Act.{Act, pure, refuse, get, put, ask, copy, flags, load, store, input, output, halt}
@@ -133,7 +133,7 @@ module _ (Q : World → Type 0) (k : Kept Q) where
       (keeps-all p (λ i. u (suc i)) (withState w (withPsw (w .state) (settled (u 0) c (pswOf (w .state))))) (k .at-psw w (u 0) c q))
   keeps-all (load b g o c) u w q = leaves-then (reads b g o) (keeps-all (c (readMem b (w .ram) (w .rom) g o)) u w q)
   keeps-all (store b g o v p) u w q =
-      leaves-then (writes b g o v) (keeps-all p u (withRam w (writeMem b (w .ram) g o v)) (k .at-store w b g o v q))
+      leaves-then (writes b g o v (lostBytes b (w .ram) g o)) (keeps-all p u (withRam w (writeMem b (w .ram) g o v)) (k .at-store w b g o v q))
   keeps-all (input b n c) u w q =
       ported-kept (λ v x. then (takes b n v) (runBy u (c v) x)) (inputs-kept b n w q) (λ v x h. leaves-then (takes b n v) (keeps-all (c v) u x h))
   keeps-all (output b n v p) u w q =

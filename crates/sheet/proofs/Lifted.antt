@@ -1,19 +1,19 @@
 -- The rules for code that is lent only a part of the world.
-use Prim.Native.Nat.{ℕ, _+_, _≤_}
+use Prim.Native.Nat.{ℕ, _+_, _*_, _≤_, zero-le}
 use mathlib.Core.Path.{_≡_}
 use mathlib.Core.Bool.{Bool, true, false}
 use mathlib.Core.List.{List}
-use native.Mathlib.Nat.{add-le-add}
+use native.Mathlib.Nat.{add-le-add, le-trans}
 use native.Mathlib.Omega.{arith}
-use lib.Dec.{lit≤}
-use lib.ListN.{set}
+use lib.Dec.{ltb, lit≤}
+use lib.ListN.{length, set}
 use Rattle.sheet.specs.declared.Bus.{Bus}
-use Rattle.sheet.specs.Width.{pick, wrapOf}
+use Rattle.sheet.specs.Width.{pick, bytesOf, wrapOf}
 use Rattle.sheet.specs.Psw.{Flag, Effect, keeps, flagOf, settled}
 use Rattle.sheet.specs.Registers.{PSW, File, fileOf, written}
-use Rattle.sheet.specs.Memory.{readMem, writeMem, busCycles}
+use Rattle.sheet.specs.Memory.{physical, next, readMem, writeMem, busCycles, lost, lostBytes}
 use Rattle.sheet.specs.Act.{Act, pure, flags, _>>=_, registers, _≔_, flag, psw, peek, poke}
-use Rattle.sheet.specs.Handler.{nothing, _⊕_, busOf}
+use Rattle.sheet.specs.Handler.{nothing, _⊕_, busOf, busWith}
 use Rattle.sheet.specs.Contract.{OnFile, OnMemory}
 use lib.ListN.{getD}
 use Rattle.sheet.proofs.Rules.{seq, seq-free, seq-last, ends-pure, ends-registers, ends-set, ends-flag, ends-psw, ends-flags, ends-peek, ends-poke}
@@ -46,36 +46,59 @@ module _ {A B : Type 0} {p : Act A} (k : A → Act B) {f g h : List ℕ} {a : A}
 
   pub memory-seq : {ram rom ram′ ram″ : List ℕ} {n m : Bus} {t u : ℕ} → OnMemory A p f ram rom a g ram′ n t → OnMemory B (k a) g ram′ rom b h ram″ m u
       → OnMemory B (p >>= k) f ram rom b h ram″ (n ⊕ m) (t + u)
-  memory-seq x y = record { most = add-le-add (x .most) (y .most); at = λ s tape log. seq k (x .at s tape log) (y .at s tape log) }
+  memory-seq x y = record { most = add-le-add (x .most) (y .most); fair = (let a = x .fair in let b = y .fair in omega arith); at = λ s tape log. seq k (x .at s tape log) (y .at s tape log) }
 
   -- the same where the first, or the rest, makes no access
   pub memory-free : {ram rom ram′ : List ℕ} {m : Bus} {u : ℕ} → OnFile A p f a g → OnMemory B (k a) g ram rom b h ram′ m u → OnMemory B (p >>= k) f ram rom b h ram′ m u
-  memory-free {ram = ram} {rom = rom} x y = record { most = y .most; at = λ s tape log. seq-free k (x .at s ram rom tape log) (y .at s tape log) }
+  memory-free {ram = ram} {rom = rom} x y = record { most = y .most; fair = y .fair; at = λ s tape log. seq-free k (x .at s ram rom tape log) (y .at s tape log) }
 
   pub memory-last : {ram rom ram′ : List ℕ} {n : Bus} {t : ℕ} → OnMemory A p f ram rom a g ram′ n t → OnFile B (k a) g b h → OnMemory B (p >>= k) f ram rom b h ram′ n t
-  memory-last {rom = rom} {ram′ = ram′} x y = record { most = x .most; at = λ s tape log. seq-last k (x .at s tape log) (y .at s ram′ rom tape log) }
+  memory-last {rom = rom} {ram′ = ram′} x y = record { most = x .most; fair = x .fair; at = λ s tape log. seq-last k (x .at s tape log) (y .at s ram′ rom tape log) }
 
 -- ---- code that is lent the memory
 
 -- code that is lent the registers alone makes no access
 pub on-memory : {A : Type 0} {p : Act A} {f f′ : List ℕ} {a : A} (ram rom : List ℕ) (top : ℕ) → OnFile A p f a f′ → OnMemory A p f ram rom a f′ ram nothing top
-on-memory ram rom top h = record { most = omega arith; at = λ s tape log. h .at s ram rom tape log }
+on-memory ram rom top h = record { most = omega arith; fair = lit≤ tt; at = λ s tape log. h .at s ram rom tape log }
 
 -- a larger bound will do
 pub memory-at-most : {A : Type 0} {p : Act A} {f ram rom f′ ram′ : List ℕ} {a : A} {n : Bus} {t : ℕ} (u : ℕ) → t ≤ u → OnMemory A p f ram rom a f′ ram′ n t → OnMemory A p f ram rom a f′ ram′ n u
-memory-at-most u q h = record { most = (let m = h .most in omega arith); at = h .at }
+memory-at-most u q h = record { most = (let m = h .most in omega arith); fair = h .fair; at = h .at }
 
 bus-most : (b : Bool) (o : ℕ) → busCycles b o ≤ 2
 unfolding busCycles
 bus-most true o = omega arith
 bus-most false o = lit≤ tt
 
+lost-one : (ram : List ℕ) (a : ℕ) → lost ram a ≤ 1
+unfolding lost
+lost-one ram a = go (ltb a (length ram))
+  where
+    go : (b : Bool) → pick b 0 1 ≤ 1
+    go true = lit≤ tt
+    go false = lit≤ tt
+
+-- a write drops no more bytes than it has
+pub lost-bytes : (b : Bool) (ram : List ℕ) (g o : ℕ) → lostBytes b ram g o ≤ bytesOf b
+unfolding lostBytes
+lost-bytes true ram g o = let x = lost-one ram (physical g o) in let y = lost-one ram (physical g (next o)) in omega arith
+lost-bytes false ram g o = lost-one ram (physical g o)
+
+-- two bytes a cycle: a word at an even address
+pub bytes-fair : (b : Bool) (o : ℕ) → bytesOf b ≤ 2 * busCycles b o
+unfolding busCycles
+bytes-fair true o = omega arith
+bytes-fair false o = lit≤ tt
+
+pub lost-fair : (b : Bool) (ram : List ℕ) (g o : ℕ) → lostBytes b ram g o ≤ 2 * busCycles b o
+lost-fair b ram g o = le-trans (lost-bytes b ram g o) (bytes-fair b o)
+
 -- one access
 pub memory-peek : (b : Bool) (g o v : ℕ) (n : Bus) (f ram rom : List ℕ) → v ≡ readMem b ram rom g o → n ≡ busOf b o → OnMemory ℕ (peek b g o) f ram rom v f ram n 2
-memory-peek b g o v n f ram rom e q = record { most = rw q (bus-most b o); at = λ s tape log. ends-peek b g o v n e q }
+memory-peek b g o v n f ram rom e q = record { most = rw q (bus-most b o); fair = rw q zero-le; at = λ s tape log. ends-peek b g o v n e q }
 
-pub memory-poke : (b : Bool) (g o v : ℕ) (n : Bus) (f ram rom ram′ : List ℕ) → ram′ ≡ writeMem b ram g o v → n ≡ busOf b o → OnMemory Unit (poke b g o v) f ram rom tt f ram′ n 2
-memory-poke b g o v n f ram rom ram′ e q = record { most = rw q (bus-most b o); at = λ s tape log. ends-poke b g o v n ram′ e q }
+pub memory-poke : (b : Bool) (g o v : ℕ) (n : Bus) (f ram rom ram′ : List ℕ) → ram′ ≡ writeMem b ram g o v → n ≡ busWith b o (lostBytes b ram g o) → OnMemory Unit (poke b g o v) f ram rom tt f ram′ n 2
+memory-poke b g o v n f ram rom ram′ e q = record { most = rw q (bus-most b o); fair = rw q (lost-fair b ram g o); at = λ s tape log. ends-poke b g o v n ram′ e q }
 
 -- ---- a choice that is known
 

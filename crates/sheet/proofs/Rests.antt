@@ -13,7 +13,7 @@ use Rattle.sheet.specs.declared.State.{State}
 use Rattle.sheet.specs.Width.{pick, bytesOf, wrapOf}
 use Rattle.sheet.specs.Psw.{Choice, flagOf, settled}
 use Rattle.sheet.specs.Registers.{fileOf, written}
-use Rattle.sheet.specs.Memory.{physical, next, byteAt, readMem, writeMem}
+use Rattle.sheet.specs.Memory.{physical, next, byteAt, readMem, writeMem, lost, lostBytes}
 use Rattle.sheet.specs.Log.{rule, keyOf, recordBytes, writeLog}
 use Rattle.sheet.specs.World.{World, world, withState, withRam, pswOf, withFile, withPsw, withHalted, recorded}
 use Rattle.sheet.specs.Act.{Act, pure, refuse, get, put, ask, copy, flags, load, store, input, output, halt}
@@ -75,6 +75,12 @@ writeMem-alike true r s rom rom′ g o x a l e =
     set-alike (set r (physical g o) (x % 256)) (set s (physical g o) (x % 256)) rom rom′ (physical g (next o)) (x / 256 % 256) a
     (length-set r (physical g o) (x % 256) ∙ l ∙ sym (length-set s (physical g o) (x % 256)))
     (set-alike r s rom rom′ (physical g o) (x % 256) a l e)
+
+-- what is dropped rests on RAM's length alone
+lost-alike : (b : Bool) (r s : List ℕ) (g o : ℕ) → length r ≡ length s → lostBytes b r g o ≡ lostBytes b s g o
+unfolding lostBytes lost
+lost-alike false r s g o e = rw e
+lost-alike true r s g o e = rw e
 
 -- ---- a record written to both logs
 
@@ -195,8 +201,10 @@ module _ (P : ℕ → Type 0) (start : ℕ) (tape : List ℕ) where
   rests (store b g o v p) u s m m′ r l =
       let n : Bytes = record { ram = writeMem b (m .ram) g o v; rom = m .rom; log = m .log } in
       let n′ : Bytes = record { ram = writeMem b (m′ .ram) g o v; rom = m′ .rom; log = m′ .log } in
-      let h = within-then (writes b g o v) (runBy u p (from s tape n)) r in
-      same-then (writes b g o v) (rests p u s n n′ (h .1) (store-alike b g o v s m m′ l))
+      let d : ℕ = lostBytes b (m .ram) g o in
+      let h = within-then (writes b g o v d) (runBy u p (from s tape n)) r in
+      rw (← lost-alike b (m .ram) (m′ .ram) g o (l .ram-long))
+      (same-then (writes b g o v d) (rests p u s n n′ (h .1) (store-alike b g o v s m m′ l)))
   rests (input b n k) u s m m′ r l =
       ported-same (λ v w. then (takes b n v) (runBy u (k v) w)) (inputs-alike b n s m m′ l) r
       (λ v t q q′ l′ r′. same-then (takes b n v) (rests (k v) u t q q′ (within-then (takes b n v) (runBy u (k v) (from t tape q)) r′ .1) l′))
@@ -216,10 +224,10 @@ module _ (a x : ℕ) where
   spares-then e (refused n t) h = h
   spares-then e (done b w t) h = h
 
-  write-holds : (b : Bool) (r : List ℕ) (g o v : ℕ) → Misses a (writes b g o v) → getD r a 0 ≡ x → getD (writeMem b r g o v) a 0 ≡ x
+  write-holds : (b : Bool) (r : List ℕ) (g o v d : ℕ) → Misses a (writes b g o v d) → getD r a 0 ≡ x → getD (writeMem b r g o v) a 0 ≡ x
   unfolding writeMem
-  write-holds false r g o v h e = getD-set-other r (physical g o) a (v % 256) 0 h ∙ e
-  write-holds true r g o v h e =
+  write-holds false r g o v d h e = getD-set-other r (physical g o) a (v % 256) 0 h ∙ e
+  write-holds true r g o v d h e =
       getD-set-other (set r (physical g o) (v % 256)) (physical g (next o)) a (v / 256 % 256) 0 (h .1)
       ∙ getD-set-other r (physical g o) a (v % 256) 0 (h .0)
       ∙ e
@@ -269,8 +277,9 @@ module _ (a x : ℕ) where
       leaves-then (reads b g o) (spared (k y) u w (spares-then (reads b g o) (runBy u (k y) w) s .1) h)
   spared (store b g o v p) u w s h =
       let w′ : World = withRam w (writeMem b (w .ram) g o v) in
-      let q = spares-then (writes b g o v) (runBy u p w′) s in
-      leaves-then (writes b g o v) (spared p u w′ (q .1) (write-holds b (w .ram) g o v (q .0) h))
+      let d : ℕ = lostBytes b (w .ram) g o in
+      let q = spares-then (writes b g o v d) (runBy u p w′) s in
+      leaves-then (writes b g o v d) (spared p u w′ (q .1) (write-holds b (w .ram) g o v d (q .0) h))
   spared (input b n k) u w s h =
       ported-hold (λ v w′. then (takes b n v) (runBy u (k v) w′)) (inputs-hold b n w h) s
       (λ v w′ h′ s′. leaves-then (takes b n v) (spared (k v) u w′ (spares-then (takes b n v) (runBy u (k v) w′) s′ .1) h′))

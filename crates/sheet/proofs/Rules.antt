@@ -8,10 +8,10 @@ use Rattle.sheet.specs.declared.Bus.{Bus}
 use Rattle.sheet.specs.Width.{pick, wrapOf}
 use Rattle.sheet.specs.Psw.{Flag, Effect, keeps, flagOf, settled}
 use Rattle.sheet.specs.Registers.{File, fileOf, written}
-use Rattle.sheet.specs.Memory.{readMem, writeMem}
+use Rattle.sheet.specs.Memory.{readMem, writeMem, lostBytes}
 use Rattle.sheet.specs.World.{World, withState, withRam, pswOf, withFile, withPsw, withHalted}
 use Rattle.sheet.specs.Act.{Act, pure, refuse, get, put, ask, copy, flags, load, store, input, output, halt, _>>=_, registers, _≔_, flag, psw, peek, poke, inp, out, halted}
-use Rattle.sheet.specs.Handler.{Access, short, through, inputs, outputs, Event, reads, writes, takes, gives, asks, copies, changes, Outcome, refused, done, then, ported, runBy, run, nothing, _⊕_, busOf, cost, tally}
+use Rattle.sheet.specs.Handler.{Access, short, through, inputs, outputs, Event, reads, writes, takes, gives, asks, copies, changes, Outcome, refused, done, then, ported, runBy, run, nothing, _⊕_, busOf, busWith, cost, tally}
 use Rattle.sheet.specs.Contract.{Seen, stops, ends, seen, exec, Ends, Stops}
 
 -- n more on the bus
@@ -25,13 +25,13 @@ andThen (stops k) f = stops k
 andThen (ends a w n) f = plus n (f a w)
 
 pub no-first : (n : Bus) → nothing ⊕ n ≡ n
-no-first n = rw (zero-add (n .cycles))
+no-first n = rw (zero-add (n .cycles), zero-add (n .dropped))
 
 pub no-last : (n : Bus) → n ⊕ nothing ≡ n
-no-last n = rw (add-zero (n .cycles))
+no-last n = rw (add-zero (n .cycles), add-zero (n .dropped))
 
 pub ⊕-assoc : (a b c : Bus) → (a ⊕ b) ⊕ c ≡ a ⊕ (b ⊕ c)
-⊕-assoc a b c = rw (add-assoc (a .cycles) (b .cycles) (c .cycles))
+⊕-assoc a b c = rw (add-assoc (a .cycles) (b .cycles) (c .cycles), add-assoc (a .dropped) (b .dropped) (c .dropped))
 
 then-seen : {A : Type 0} (e : Event) (o : Outcome A) → seen (then e o) ≡ plus (cost e) (seen o)
 unfolding tally
@@ -82,7 +82,7 @@ exec-bind (load b g o k) f w =
     event-bind (reads b g o) (run (k x) w) (run (k x >>= f) w) (λ a v. exec (f a) v) (exec-bind (k x) f w)
 exec-bind (store b g o v p) f w =
     let u : World = withRam w (writeMem b (w .ram) g o v) in
-    event-bind (writes b g o v) (run p u) (run (p >>= f) u) (λ a x. exec (f a) x) (exec-bind p f u)
+    event-bind (writes b g o v (lostBytes b (w .ram) g o)) (run p u) (run (p >>= f) u) (λ a x. exec (f a) x) (exec-bind p f u)
 exec-bind (input b n k) f w =
     port-bind (inputs b n w) (takes b n) (λ v u. run (k v) u) (λ v u. run (k v >>= f) u) (λ a v. exec (f a) v) (λ v u. exec-bind (k v) f u)
 exec-bind (output b n v p) f w =
@@ -175,9 +175,9 @@ module _ {w : World} where
   unfolding exec run runBy tally
   ends-peek b g o v n e f = record { is = rw (e, f, no-last (busOf b o)) }
 
-  pub ends-poke : (b : Bool) (g o v : ℕ) (n : Bus) (ram : List ℕ) → ram ≡ writeMem b (w .ram) g o v → n ≡ busOf b o → Ends Unit (poke b g o v) w tt (withRam w ram) n
+  pub ends-poke : (b : Bool) (g o v : ℕ) (n : Bus) (ram : List ℕ) → ram ≡ writeMem b (w .ram) g o v → n ≡ busWith b o (lostBytes b (w .ram) g o) → Ends Unit (poke b g o v) w tt (withRam w ram) n
   unfolding exec run runBy tally
-  ends-poke b g o v n ram e f = record { is = rw (e, f, no-last (busOf b o)) }
+  ends-poke b g o v n ram e f = record { is = rw (e, f, no-last (busWith b o (lostBytes b (w .ram) g o))) }
 
   pub ends-inp : (b : Bool) (n v : ℕ) (m : Bus) (u : World) → inputs b n w ≡ through v u → m ≡ busOf b n → Ends ℕ (inp b n) w v u m
   unfolding exec run runBy tally

@@ -8,7 +8,7 @@ use lib.Count.{ones}
 use Rattle.sheet.specs.Width.{wrapOf, signOf, evenOf, extend, signedOf, bits32}
 use Rattle.sheet.specs.Psw.{settled}
 use Rattle.sheet.specs.Registers.{readReg, regWord}
-use Rattle.sheet.specs.Memory.{physical, byteAt, readMem, writeMem, busCycles}
+use Rattle.sheet.specs.Memory.{physical, byteAt, readMem, writeMem, busCycles, lost, lostBytes}
 use Rattle.sheet.specs.Log.{groupsOf}
 use Rattle.sheet.specs.Act as act
 use Rattle.sheet.specs.Act.{loop}
@@ -38,7 +38,7 @@ machine file count ram = world (record { file = file; marks = marksOf false fals
 
 -- a step is accepted and leaves this, with so many bus cycles
 abbrev Leaves : World → World → ℕ → Type 0
-Leaves w v n = stepReport w ≡ report 0 v (record { cycles = n })
+Leaves w v n = stepReport w ≡ report 0 v (record { cycles = n; dropped = 0 })
 
 pub record SmallTable : Type 0 where
   -- ADJ4A of FBh, AC 0, CY 0: 61h, CY 1, AC 1, P 0
@@ -96,7 +96,7 @@ pub record SmallTable : Type 0 where
   pub number : groupsOf 3 300 ≡ 0xac ∷ 0x02 ∷ []
 
 pub small-table : SmallTable
-unfolding ones wrapOf signOf evenOf extend signedOf bits32 settled readReg regWord byteAt readMem writeMem busCycles groupsOf act._>>=_ loop runBy tally formAt regValue setReg locate fetch deposit valueAt sourceValue amountOf push pushPsw pushPsPc jumpFar save trap untrapped resulting sum finish operate conclude two stands bitsOf quoted signedQuotient dividend setQuotient divided div comesIn toLeft onePlace manyPlaces shifted turned shiftMany carryIn shiftBy shift adjusted plain digits packedResult adj4 link chained string replaced lengthOf advance insertInto firstPart secondPart Rattle.sheet.specs.Fields.ins pushRegister pushPlace stack calculate multiply convert decimal field computing moving operation execute reading._>>=_ scan word immediate allow prefixOf formed address inMemory place lookUp fieldGiven withAcc withPlace withShift shiftGroup groupF6 afterPrefix prefixed instruction fits sound singleStep loadsSegment movesIn movIn popIn stepping starting decoded awake stepBy step stepReport
+unfolding ones wrapOf signOf evenOf extend signedOf bits32 settled readReg regWord byteAt readMem writeMem busCycles lost lostBytes groupsOf act._>>=_ loop runBy tally formAt regValue setReg locate fetch deposit valueAt sourceValue amountOf push pushPsw pushPsPc jumpFar save trap untrapped resulting sum finish operate conclude two stands bitsOf quoted signedQuotient dividend setQuotient divided div comesIn toLeft onePlace manyPlaces shifted turned shiftMany carryIn shiftBy shift adjusted plain digits packedResult adj4 link chained string replaced lengthOf advance insertInto firstPart secondPart Rattle.sheet.specs.Fields.ins pushRegister pushPlace stack calculate multiply convert decimal field computing moving operation execute reading._>>=_ scan word immediate allow prefixOf formed address inMemory place lookUp fieldGiven withAcc withPlace withShift shiftGroup groupF6 afterPrefix prefixed instruction fits sound singleStep loadsSegment movesIn movIn popIn stepping starting decoded awake stepBy step stepReport
 small-table = record {
   adj4a = refl;
   sub4s = refl;

@@ -1,5 +1,5 @@
 -- What contracts say: what a caller sees of a tree, of the whole world or of the part that it lends.
-use Prim.Native.Nat.{ℕ, _≤_}
+use Prim.Native.Nat.{ℕ, _*_, _≤_}
 use mathlib.Core.Path.{_≡_}
 use mathlib.Core.List.{List}
 use Rattle.sheet.specs.declared.State.{State}
@@ -45,9 +45,10 @@ pub record OnFile (A : Type 0) (p : Act A) (f : List ℕ) (a : A) (f′ : List �
   pub at : (s : State) (ram rom tape log : List ℕ)
       → Ends A p (world (withFile s f) ram rom tape log) a (world (withFile s f′) ram rom tape log) nothing
 
--- code that is lent the registers and the memory, with the most bus cycles that it takes
+-- code that is lent the registers and the memory, with the most bus cycles that it takes; at most two bytes a cycle are dropped
 pub record OnMemory (A : Type 0) (p : Act A) (f ram rom : List ℕ) (a : A) (f′ ram′ : List ℕ) (n : Bus) (top : ℕ) : Type 0 where
   pub most : n .cycles ≤ top
+  pub fair : n .dropped ≤ 2 * n .cycles
   pub at : (s : State) (tape log : List ℕ)
       → Ends A p (world (withFile s f) ram rom tape log) a (world (withFile s f′) ram′ rom tape log) n
 

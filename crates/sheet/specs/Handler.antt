@@ -9,7 +9,7 @@ use Rattle.sheet.specs.declared.Bus.{Bus}
 use Rattle.sheet.specs.Width.{pick, bytesOf, wrapOf}
 use Rattle.sheet.specs.Psw.{Flag, Effect, Choice, keeps, flagOf, settled}
 use Rattle.sheet.specs.Registers.{fileOf, written}
-use Rattle.sheet.specs.Memory.{readMem, writeMem, busCycles}
+use Rattle.sheet.specs.Memory.{readMem, writeMem, busCycles, lostBytes}
 use Rattle.sheet.specs.Log.{rule, keyOf, recordBytes, writeLog}
 use Rattle.sheet.specs.World.{World, world, withState, withRam, pswOf, withFile, withPsw, withHalted, recorded}
 use Rattle.sheet.specs.Act.{Act, pure, refuse, get, put, ask, copy, flags, load, store, input, output, halt}
@@ -47,7 +47,8 @@ outputs b n v w = recording w v 0 (recordBytes rule (w .state .progress .count) 
 -- what happened, in its order
 pub data Event : Type 0 where
   reads : Bool → (segment offset : ℕ) → Event
-  writes : Bool → (segment offset v : ℕ) → Event
+  -- with how many of its bytes were dropped
+  writes : Bool → (segment offset v dropped : ℕ) → Event
   takes gives : Bool → (port v : ℕ) → Event
   asks : Flag → Event
   copies : Bool → Event
@@ -77,7 +78,7 @@ runBy u (copy b k) w = then (copies b) (runBy u (k (wrapOf b (pswOf (w .state)))
 runBy u (flags c p) w =
     then (changes c) (runBy (λ i. u (suc i)) p (withState w (withPsw (w .state) (settled (u zero) c (pswOf (w .state))))))
 runBy u (load b g o k) w = then (reads b g o) (runBy u (k (readMem b (w .ram) (w .rom) g o)) w)
-runBy u (store b g o v p) w = then (writes b g o v) (runBy u p (withRam w (writeMem b (w .ram) g o v)))
+runBy u (store b g o v p) w = then (writes b g o v (lostBytes b (w .ram) g o)) (runBy u p (withRam w (writeMem b (w .ram) g o v)))
 runBy u (input b n k) w = ported (inputs b n w) (λ v w′. then (takes b n v) (runBy u (k v) w′))
 runBy u (output b n v p) w = ported (outputs b n v w) (λ x w′. then (gives b n v) (runBy u p w′))
 runBy u (halt b p) w = runBy u p (withState w (withHalted (w .state) b))
@@ -97,18 +98,22 @@ happened (done a w t) = t
 -- ---- what is counted over it
 
 abbrev pub nothing : Bus
-nothing = record { cycles = 0 }
+nothing = record { cycles = 0; dropped = 0 }
 
 infixl 60 _⊕_
 abbrev pub _⊕_ : Bus → Bus → Bus
-a ⊕ b = record { cycles = a .cycles + b .cycles }
+a ⊕ b = record { cycles = a .cycles + b .cycles; dropped = a .dropped + b .dropped }
+
+-- an access that drops d bytes, and one that drops none
+abbrev pub busWith : Bool → ℕ → ℕ → Bus
+busWith b o d = record { cycles = busCycles b o; dropped = d }
 
 abbrev pub busOf : Bool → ℕ → Bus
-busOf b o = record { cycles = busCycles b o }
+busOf b o = busWith b o 0
 
 abbrev pub cost : Event → Bus
 cost (reads b g o) = busOf b o
-cost (writes b g o v) = busOf b o
+cost (writes b g o v d) = busWith b o d
 cost (takes b n v) = busOf b n
 cost (gives b n v) = busOf b n
 cost (asks f) = nothing

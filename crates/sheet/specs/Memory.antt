@@ -33,3 +33,11 @@ writeMem true ram seg off v = set (set ram (physical seg off) (v % 256)) (physic
 unfoldable pub busCycles : Bool → ℕ → ℕ
 busCycles false off = 1
 busCycles true off = 1 + off % 2
+
+-- whether a byte that is written at an address is dropped, as a number, and how many bytes of one write are
+unfoldable pub lost : List ℕ → ℕ → ℕ
+lost ram a = pick (ltb a (length ram)) 0 1
+
+unfoldable pub lostBytes : Bool → List ℕ → ℕ → ℕ → ℕ
+lostBytes false ram seg off = lost ram (physical seg off)
+lostBytes true ram seg off = lost ram (physical seg off) + lost ram (physical seg (next off))

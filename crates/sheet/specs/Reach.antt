@@ -14,7 +14,7 @@ Covers P true g o = P (physical g o) × P (physical g (next o))
 -- what an event reads lies in P
 abbrev pub Sees : (ℕ → Type 0) → Event → Type 0
 Sees P (reads b g o) = Covers P b g o
-Sees P (writes b g o v) = Unit
+Sees P (writes b g o v d) = Unit
 Sees P (takes b n v) = Unit
 Sees P (gives b n v) = Unit
 Sees P (asks f) = Unit
@@ -24,7 +24,7 @@ Sees P (changes c) = Unit
 -- a is no address that an event writes
 abbrev pub Misses : ℕ → Event → Type 0
 Misses a (reads b g o) = Unit
-Misses a (writes b g o v) = Covers (λ x. a ≢ x) b g o
+Misses a (writes b g o v d) = Covers (λ x. a ≢ x) b g o
 Misses a (takes b n v) = Unit
 Misses a (gives b n v) = Unit
 Misses a (asks f) = Unit

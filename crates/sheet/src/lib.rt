@@ -27,6 +27,8 @@ pub struct Progress {
 // What data accesses come to.
 pub struct Bus {
     pub cycles: u32,
+    // bytes that were written outside RAM
+    pub dropped: u32,
 }
 
 // ---- operands

@@ -8,17 +8,25 @@ use lib.Dec.{lit≤}
 use Rattle.sheet.specs.declared.Bus.{Bus}
 use Rattle.sheet.specs.Memory.{busCycles}
 use Rattle.sheet.specs.Act.{Act}
-use Rattle.sheet.specs.Handler.{nothing, _⊕_, busOf}
+use Rattle.sheet.specs.Handler.{nothing, _⊕_}
 use Rattle.sheet.specs.Contract.{OnMemory}
 use Rattle.tally.specs.Sums.{Free, Costs, Joins, JoinsThree}
 
-pub costs-word : (w : Bool) (o : ℕ) → w ≡ true → Costs w o (record { cycles = 1 + o % 2 })
+pub cycles-word : (w : Bool) (o : ℕ) → w ≡ true → 1 + o % 2 ≡ busCycles w o
 unfolding busCycles
-costs-word w o p = record { is = rw p; most = omega arith }
+cycles-word w o p = rw p
 
-pub costs-byte : (w : Bool) (o : ℕ) → w ≡ false → Costs w o (record { cycles = 1 })
+pub cycles-byte : (w : Bool) (o : ℕ) → w ≡ false → 1 ≡ busCycles w o
 unfolding busCycles
-costs-byte w o p = record { is = rw p; most = lit≤ tt }
+cycles-byte w o p = rw p
+
+cycles-most : (w : Bool) (o : ℕ) → busCycles w o ≤ 2
+unfolding busCycles
+cycles-most true o = omega arith
+cycles-most false o = lit≤ tt
+
+pub costs : (w : Bool) (o d c : ℕ) → c ≡ busCycles w o → Costs w o d (record { cycles = c; dropped = d })
+costs w o d c e = record { is = rw e; most = rw e (cycles-most w o) }
 
 module _ {A : Type 0} {p : Act A} {f ram rom f′ ram′ : List ℕ} {a : A} {t : ℕ} where
   -- no access

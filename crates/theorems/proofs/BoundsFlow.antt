@@ -71,6 +71,10 @@ of-prepare : (size level : ℕ) → level ≤ 255 → Most Unit (prepare size le
 unfolding prepare
 of-prepare size level h = seq of-registers λ r. seq (of-push _) λ _. seq (of-frames level _ h) λ _. seq of-set λ _. seq of-registers λ q. of-set
 
+of-prepare-flat : (size : ℕ) → Most Unit (prepare size 0) 2
+unfolding prepare frames
+of-prepare-flat size = seq of-registers λ r. seq (of-push _) λ _. seq of-pure λ _. seq of-set λ _. seq of-registers λ q. of-set
+
 -- PREPARE's level; others have none
 abbrev pub levelOf : Stack → ℕ
 levelOf (Push from) = 0
@@ -86,7 +90,16 @@ levelOf PopR = 0
 levelOf (Prepare size level) = level
 levelOf Dispose = 0
 
-pub of-stack : (i : Stack) → levelOf i ≤ 255 → Most Unit (stack i) 1020
+-- 16 where there is no level: PUSH R's and POP R's
+abbrev pub levelTop : ℕ → ℕ
+levelTop zero = 16
+levelTop (suc n) = 1020
+
+pub level-top : (n : ℕ) → levelTop n ≤ 1020
+level-top zero = lit≤ tt
+level-top (suc n) = lit≤ tt
+
+pub of-stack : (i : Stack) → levelOf i ≤ 255 → Most Unit (stack i) (levelTop (levelOf i))
 unfolding stack pushSegment popPlace popSegment popPsw dispose
 of-stack (Push from) h = up (lit≤ tt) (of-pushPlace from)
 of-stack (PushByte v) h = up (lit≤ tt) (of-push v)
@@ -98,7 +111,8 @@ of-stack (Pop to) h = up (lit≤ tt) (seq of-pop λ v. seq (of-locate to) λ s. 
 of-stack (PopSegment seg) h = up (lit≤ tt) (of-popInto _)
 of-stack PopPsw h = up (lit≤ tt) (seq of-pop λ x. of-flags)
 of-stack PopR h = up (lit≤ tt) of-popR
-of-stack (Prepare size level) h = of-prepare size level h
+of-stack (Prepare size zero) h = up (lit≤ tt) (of-prepare-flat size)
+of-stack (Prepare size (suc n)) h = of-prepare size (suc n) h
 of-stack Dispose h = up (lit≤ tt) (seq of-registers λ r. seq of-set λ _. of-popInto _)
 
 -- ---- CALL, RET, BR

@@ -47,7 +47,7 @@ use Rattle.sheet.specs.Decimal.{adj4, adjb, link, chained, string, rol4, ror4}
 use Rattle.sheet.specs.Fields.{lengthOf, advance, insertInto, firstPart, secondPart, ins, window, ext}
 use Rattle.sheet.specs.Traps.{untrapped}
 use Rattle.sheet.specs.Execute.{calculate, multiply, convert, decimal, field}
-use Rattle.theorems.proofs.BoundsRules.{MostOf, Most, seq, any, up, either-way, of-pure, of-get, of-registers, of-set, of-flag, of-psw, of-flags, of-peek, of-poke, of-peek-byte, of-poke-byte, of-loop}
+use Rattle.theorems.proofs.BoundsRules.{Measure, Bound, Most, seq, any, up, either-way, of-pure, of-get, of-registers, of-set, of-flag, of-psw, of-flags, of-peek, of-poke, of-peek-byte, of-poke-byte, of-loop}
 use Rattle.theorems.proofs.BoundsOperands.{of-regValue, of-setReg, of-locate, of-fetch, of-deposit, of-valueAt, of-sourceValue, of-pairAt, of-amountOf, of-trap}
 
 -- ---- transfers
@@ -103,7 +103,7 @@ of-calculate (Test w left right) = up (lit≤ tt) (seq (of-valueAt w left) λ a.
 
 -- ---- products and quotients
 
-pub of-untrapped : {s : Bool} {p : Act Unit} {n : ℕ} → MostOf s Unit p n → MostOf s Bool (untrapped p) (n + 0)
+pub of-untrapped : {m : Measure} {s : Bool} {p : Act Unit} {n : ℕ} → Bound m s Unit p n → Bound m s Bool (untrapped p) (n + 0)
 unfolding untrapped
 of-untrapped h = seq h λ _. any of-pure
 
@@ -204,20 +204,28 @@ unfolding link
 of-link sub stores seg i c =
     seq of-registers λ r. seq of-peek-byte λ a. seq of-peek-byte λ b. seq (either-way stores of-poke-byte (up (lit≤ tt) of-pure)) λ _. of-pure
 
-half-of-cl : (x : ℕ) → (x % 256 + 1) / 2 ≤ 128
+pub half-of-cl : (x : ℕ) → (x % 256 + 1) / 2 ≤ 128
 half-of-cl x = omega arith
 
 of-string : (sub stores : Bool) (seg : ℕ) → Most Unit (string sub stores seg) 384
 unfolding string chained regValue readReg _>>=_
 of-string sub stores seg = of-get λ r. seq (up (mul-le-mul-right 3 (half-of-cl (r CL))) (of-loop (link sub stores seg) 3 (of-link sub stores seg) _ 0 _)) λ c. of-flags
 
+pub of-rol4 : (to : Place) → Most Unit (rol4 to) 4
+unfolding rol4
+of-rol4 to = seq (of-regValue _ _) λ al. seq (of-locate to) λ s. seq (of-fetch false s) λ x. seq (of-deposit false s _) λ _. of-setReg _ _ _
+
+pub of-ror4 : (to : Place) → Most Unit (ror4 to) 4
+unfolding ror4
+of-ror4 to = seq (of-regValue _ _) λ al. seq (of-locate to) λ s. seq (of-fetch false s) λ x. seq (of-deposit false s _) λ _. of-setReg _ _ _
+
 pub of-decimal : (i : Decimal) → Most Unit (decimal i) 384
-unfolding decimal rol4 ror4
+unfolding decimal
 of-decimal (Add4s seg) = of-string false true seg
 of-decimal (Sub4s seg) = of-string true true seg
 of-decimal (Cmp4s seg) = of-string true false seg
-of-decimal (Rol4 to) = up (lit≤ tt) (seq (of-regValue _ _) λ al. seq (of-locate to) λ s. seq (of-fetch false s) λ x. seq (of-deposit false s _) λ _. of-setReg _ _ _)
-of-decimal (Ror4 to) = up (lit≤ tt) (seq (of-regValue _ _) λ al. seq (of-locate to) λ s. seq (of-fetch false s) λ x. seq (of-deposit false s _) λ _. of-setReg _ _ _)
+of-decimal (Rol4 to) = up (lit≤ tt) (of-rol4 to)
+of-decimal (Ror4 to) = up (lit≤ tt) (of-ror4 to)
 
 -- ---- bit fields
 

@@ -31,7 +31,7 @@ use Rattle.portlog.proofs.Picked.{picked}
 use Rattle.engine.proofs.Laws.{awake-known}
 use Rattle.engine.proofs.RunLaws.{step-on}
 use Rattle.theorems.proofs.Widths.{byte-top}
-use Rattle.theorems.proofs.BoundsRules.{Within, within, short-of, MostOf, Most, seq, any, up, of-pure, of-registers, of-set, of-flag, of-halted}
+use Rattle.theorems.proofs.BoundsRules.{Within, within, cycles, short-of, MostOf, Most, seq, any, up, of-pure, of-registers, of-set, of-flag, of-halted}
 use Rattle.theorems.proofs.BoundsOperands.{of-trap}
 use Rattle.theorems.proofs.BoundsGroups.{of-transfer, of-calculate, of-untrapped, of-multiply, of-convert, of-shift, of-bits, of-decimal, of-field}
 use Rattle.theorems.proofs.BoundsFlow.{of-stack, of-branch, of-conditional, of-interrupts, of-block, of-ports, of-control}
@@ -52,7 +52,7 @@ of-computing (Fields i) = up (lit≤ tt) (of-field i)
 of-moving : (i : Move) → levelAmong i ≤ 255 → Most Unit (moving i) 1020
 unfolding moving
 of-moving (Transfers i) h = up (lit≤ tt) (of-transfer i)
-of-moving (Stacks i) h = of-stack i h
+of-moving (Stacks i) h = up (level-top (levelOf i)) (of-stack i h)
 of-moving (Branches i) h = up (lit≤ tt) (of-branch i)
 of-moving (Tests i) h = up (lit≤ tt) (of-conditional i)
 
@@ -119,7 +119,7 @@ as-ported : (k : ℕ) → 5 ≤ k → k ≤ 6 → Among k stepRefusals
 as-ported k h g =
     one-of-two k 5 h g (λ n. Among n stepRefusals) (later (later (later (later (later first))))) (later (later (later (later (later (later first))))))
 
-within-step : (e : Seen Unit) → Within stepTop e → Comes stepTop stepRefusals e
+within-step : (e : Seen Unit) → Within cycles stepTop e → Comes stepTop stepRefusals e
 within-step (ends tt w m) (within h) = ends-in h
 within-step (stops k) (short-of f g) = stops-by (as-ported k f g)
 
@@ -145,7 +145,7 @@ interrupting-ends : (v : ℕ) (w : World) → (x : World) × (m : Bus) × (exec 
 unfolding interrupting trap save pushPsw pushPsPc jumpFar push _>>=_ exec run runBy
 interrupting-ends v w = (_, _, refl)
 
-ends-most : (n : ℕ) (x : World) (m : Bus) → Within {A = Unit {0}} n (ends tt x m) → m .cycles ≤ n
+ends-most : (n : ℕ) (x : World) (m : Bus) → Within {A = Unit {0}} cycles n (ends tt x m) → m .cycles ≤ n
 ends-most n x m (within h) = h
 
 pub interrupt-comes : (v : ℕ) (maskable : Bool) (w : World) → Comes interruptTop interruptRefusals (seen (interrupt v maskable w))

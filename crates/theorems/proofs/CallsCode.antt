@@ -101,7 +101,7 @@ interrupt-refused x h =
 -- ---- no stand-in: whatever code answers on two machines
 
 pub code-subtracts : {n : ℕ} {s′ : State} {ram′ log′ : List ℕ} {b : Bus} → Steps (subtracting .state) (subtracting .ram) [] [] [] n s′ ram′ log′ b
-    → (n ≡ 0) × (s′ ≡ subtracted .state) × (ram′ ≡ subtracted .ram) × (b ≡ record { cycles = 3 })
+    → (n ≡ 0) × (s′ ≡ subtracted .state) × (ram′ ≡ subtracted .ram) × (b ≡ record { cycles = 3; dropped = 0 })
 code-subtracts x = let (number, state, ram, log, bus) = reported (x .is) (small-table .sub4s) in (number, state, ram, bus)
 
 pub code-asleep : {n : ℕ} {s′ : State} {ram′ log′ : List ℕ} {b : Bus} → Steps (asleep .state) (asleep .ram) [] [] [] n s′ ram′ log′ b → (n ≡ 8) × (s′ ≡ asleep .state) × (b ≡ nothing)

@@ -14,7 +14,7 @@ use Rattle.sheet.specs.declared.Entry.the-variants as entry
 use Rattle.sheet.specs.Width.{wrapOf}
 use Rattle.sheet.specs.Psw.{settled}
 use Rattle.sheet.specs.Registers.{AW, SP}
-use Rattle.sheet.specs.Memory.{byteAt, readMem, writeMem, busCycles}
+use Rattle.sheet.specs.Memory.{byteAt, readMem, writeMem, busCycles, lost, lostBytes}
 use Rattle.sheet.specs.Act.{_>>=_}
 use Rattle.sheet.specs.World.{World}
 use Rattle.sheet.specs.Handler.{Event, done, runBy, nothing, tally}
@@ -50,10 +50,10 @@ asleep-refused = refl
 -- ---- step
 
 module _ (engine : World → Report) (meets : MeetsStep engine) where
-  at-subtracting : engine subtracting ≡ report 0 subtracted (record { cycles = 3 })
+  at-subtracting : engine subtracting ≡ report 0 subtracted (record { cycles = 3; dropped = 0 })
   at-subtracting = sym (meets subtracting refl) ∙ small-table .sub4s
 
-  at-adjusting : engine adjusting ≡ report 0 adjusted (record { cycles = 0 })
+  at-adjusting : engine adjusting ≡ report 0 adjusted (record { cycles = 0; dropped = 0 })
   at-adjusting = sym (meets adjusting refl) ∙ small-table .adj4a
 
   at-asleep : engine asleep ≡ report 8 asleep nothing
@@ -99,8 +99,8 @@ module _ (engine : World → Report) (meets : MeetsStep engine) where
 
 -- ---- an interrupt call
 
-pub takes-it : interruptReport 0 false callable ≡ report 0 entered (record { cycles = 5 })
-unfolding interruptReport interrupt interruptBy fits sound interrupting trap save pushPsw pushPsPc jumpFar push _>>=_ runBy tally wrapOf settled readMem writeMem byteAt busCycles
+pub takes-it : interruptReport 0 false callable ≡ report 0 entered (record { cycles = 5; dropped = 0 })
+unfolding interruptReport interrupt interruptBy fits sound interrupting trap save pushPsw pushPsPc jumpFar push _>>=_ runBy tally wrapOf settled readMem writeMem byteAt busCycles lost lostBytes
 takes-it = refl
 
 pub is-masked : interruptReport 0 true masked ≡ report 7 masked nothing
@@ -108,7 +108,7 @@ unfolding interruptReport interrupt interruptBy fits sound
 is-masked = refl
 
 module _ (engine : ℕ → Bool → World → Report) (meets : MeetsInterrupt engine) where
-  at-callable : engine 0 false callable ≡ report 0 entered (record { cycles = 5 })
+  at-callable : engine 0 false callable ≡ report 0 entered (record { cycles = 5; dropped = 0 })
   at-callable = sym (meets 0 false callable (lit≤ tt) refl) ∙ takes-it
 
   at-masked : engine 0 true masked ≡ report 7 masked nothing

@@ -24,6 +24,8 @@ pub mod BoundsStep
 pub mod BoundsPrepare
 pub mod PortOnce
 pub mod Log
+pub mod Dropped
+pub mod BoundsDropped
 pub mod Calls
 pub mod CallsStandIns
 pub mod CallsCode

@@ -37,12 +37,12 @@ interrupt-tells : {x : ℕ} {m : Bool} {w v : World} {number : ℕ} {n : Bus} �
 unfolding interruptReport
 interrupt-tells {x} {m} {w} (interrupt-call h) = subst (Told w (interrupt x m w)) (h .is) (told w (interrupt x m w))
 
--- bus cycles are summed over the accesses
+-- what a step comes to is summed over the accesses
 pub tally-accesses : (t : List Event) → tally t ≡ tally (accesses t)
 unfolding tally accesses
 tally-accesses [] = refl
 tally-accesses (reads b g o ∷ t) = ap (λ n. cost (reads b g o) ⊕ n) (tally-accesses t)
-tally-accesses (writes b g o v ∷ t) = ap (λ n. cost (writes b g o v) ⊕ n) (tally-accesses t)
+tally-accesses (writes b g o v d ∷ t) = ap (λ n. cost (writes b g o v d) ⊕ n) (tally-accesses t)
 tally-accesses (takes b p v ∷ t) = ap (λ n. cost (takes b p v) ⊕ n) (tally-accesses t)
 tally-accesses (gives b p v ∷ t) = ap (λ n. cost (gives b p v) ⊕ n) (tally-accesses t)
 tally-accesses (asks f ∷ t) = no-first (tally t) ∙ tally-accesses t
@@ -73,7 +73,7 @@ code-answers w whole ram rom = go (step w) refl
         let g = step-leaves kept w v t whole e .lent in
         answer w 0 (v .state) (v .ram) (v .log) (tally t) (at-most-1028 w v t ram rom e) (rw (e, ← g .rom-same, ← g .tape-same))
 
--- ---- the own steps' cycles together
+-- ---- the own steps' cycles and dropped bytes together
 
 total-last : (l : List Bus) (n : Bus) → total (l ++ (n ∷ [])) ≡ total l ⊕ n
 unfolding total
@@ -90,3 +90,6 @@ total-shown i w (suc j) =
 -- what own steps 1 to j report comes to the sum over the accesses of j single primitives
 pub own-cycles : {i : Block} {w v : World} {K : ℕ → Type 0} {p j : ℕ} {l : List Bus} → After code i w K p j l v → total l ≡ tally (eventsOf i w j)
 own-cycles {i} {w} {j = j} a = ap total (a .accesses) ∙ total-shown i w j
+
+pub own-dropped : {i : Block} {w v : World} {K : ℕ → Type 0} {p j : ℕ} {l : List Bus} → After code i w K p j l v → total l .dropped ≡ tally (eventsOf i w j) .dropped
+own-dropped a = ap (λ (b : Bus). b .dropped) (own-cycles a)

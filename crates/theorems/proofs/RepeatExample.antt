@@ -13,7 +13,7 @@ use Rattle.sheet.specs.declared.Instr.the-variants.{Blocks}
 use Rattle.sheet.specs.Width.{wrapOf}
 use Rattle.sheet.specs.Psw.{settled}
 use Rattle.sheet.specs.Registers.{CW, PC, inPs}
-use Rattle.sheet.specs.Memory.{byteAt, readMem, writeMem, busCycles}
+use Rattle.sheet.specs.Memory.{byteAt, readMem, writeMem, busCycles, lost, lostBytes}
 use Rattle.sheet.specs.Act as act
 use Rattle.sheet.specs.World.{World}
 use Rattle.sheet.specs.Handler.{Event, Outcome, done, runBy, run, happened, tally}
@@ -230,11 +230,11 @@ in-code w v t e r p m =
     subst (λ (x : World). StepCall w 0 x (tally t)) (rw (← r, ← p)) (step-call {s = v .state} {ram = v .ram} {log = v .log} (record { most = m; is = rw (e, ← r, ← p) }))
 
 called-in-code : InterruptCall 8 true after-one 0 in-handler (tally (happened (interrupt 8 true after-one)))
-unfolding opened interruptReport tally busCycles
+unfolding opened interruptReport tally busCycles lost lostBytes
 called-in-code = interrupt-call (record { most = lit≤ tt; is = refl })
 
 few : (tally (happened (step start)) .cycles ≤ 1028) × (tally (happened (step in-handler)) .cycles ≤ 1028) × (tally (happened (step with-carry)) .cycles ≤ 1028)
-unfolding opened tally busCycles
+unfolding opened tally busCycles lost lostBytes
 few = (lit≤ tt, lit≤ tt, lit≤ tt)
 
 pub code-goes : Goes code

@@ -13,7 +13,7 @@ use Rattle.sheet.specs.declared.Primitive.the-variants.{Movbk, Cmpbk, Cmpm, Ldm
 use Rattle.sheet.specs.Width.{pick}
 use Rattle.sheet.specs.Psw.{DIR, column}
 use Rattle.sheet.specs.Registers.{AW, IX, IY, DS1, fileOf, segment, readReg}
-use Rattle.sheet.specs.Memory.{byteAt, readMem, writeMem}
+use Rattle.sheet.specs.Memory.{byteAt, readMem, writeMem, lostBytes}
 use Rattle.sheet.specs.World.{World, world, withFile, marksOf}
 use Rattle.sheet.specs.Act.{_>>=_}
 use Rattle.sheet.specs.Operand.{regValue, setReg}
@@ -48,7 +48,7 @@ ramAfter Outm b seg f ram rom = ram
 
 unfoldable pub trace : Primitive → Bool → ℕ → (f ram rom : List ℕ) → List Event
 trace Movbk b seg f ram rom =
-    reads b (fileOf f (segment seg)) (getD f IX 0) ∷ writes b (getD f DS1 0) (getD f IY 0) (sourceDue b seg f ram rom) ∷ asks DIR ∷ asks DIR ∷ []
+    reads b (fileOf f (segment seg)) (getD f IX 0) ∷ writes b (getD f DS1 0) (getD f IY 0) (sourceDue b seg f ram rom) (lostBytes b ram (getD f DS1 0) (getD f IY 0)) ∷ asks DIR ∷ asks DIR ∷ []
 trace Cmpbk b seg f ram rom =
     reads b (fileOf f (segment seg)) (getD f IX 0)
     ∷ reads b (getD f DS1 0) (getD f IY 0)
@@ -59,7 +59,7 @@ trace Cmpbk b seg f ram rom =
 trace Cmpm b seg f ram rom =
     reads b (getD f DS1 0) (getD f IY 0) ∷ changes (column (difference b (readReg b (fileOf f) AW) (targetDue b f ram rom) false .column)) ∷ asks DIR ∷ []
 trace Ldm b seg f ram rom = reads b (fileOf f (segment seg)) (getD f IX 0) ∷ asks DIR ∷ []
-trace Stm b seg f ram rom = writes b (getD f DS1 0) (getD f IY 0) (readReg b (fileOf f) AW) ∷ asks DIR ∷ []
+trace Stm b seg f ram rom = writes b (getD f DS1 0) (getD f IY 0) (readReg b (fileOf f) AW) (lostBytes b ram (getD f DS1 0) (getD f IY 0)) ∷ asks DIR ∷ []
 trace Inm b seg f ram rom = []
 trace Outm b seg f ram rom = []
 

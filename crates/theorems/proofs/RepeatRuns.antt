@@ -6,7 +6,7 @@ use mathlib.Core.List.{List, [], _∷_, _++_}
 use Rattle.sheet.specs.Width.{wrapOf}
 use Rattle.sheet.specs.Psw.{keeps, flagOf, settled}
 use Rattle.sheet.specs.Registers.{fileOf, written}
-use Rattle.sheet.specs.Memory.{readMem, writeMem}
+use Rattle.sheet.specs.Memory.{readMem, writeMem, lostBytes}
 use Rattle.sheet.specs.World.{World, withState, withRam, pswOf, withFile, withPsw, withHalted}
 use Rattle.sheet.specs.Act.{Act, pure, refuse, get, put, ask, copy, flags, load, store, input, output, halt, _>>=_}
 use Rattle.sheet.specs.Handler.{Access, short, through, inputs, outputs, Event, reads, writes, takes, gives, asks, copies, changes, Outcome, refused, done, then, ported, runBy, run}
@@ -52,7 +52,8 @@ run-bind (load b g o k) f w =
     ap (then (reads b g o)) (run-bind (k x) f w) ∙ after-then (reads b g o) (run (k x) w) (λ a v. run (f a) v)
 run-bind (store b g o v p) f w =
     let u : World = withRam w (writeMem b (w .ram) g o v) in
-    ap (then (writes b g o v)) (run-bind p f u) ∙ after-then (writes b g o v) (run p u) (λ a x. run (f a) x)
+    let e : Event = writes b g o v (lostBytes b (w .ram) g o) in
+    ap (then e) (run-bind p f u) ∙ after-then e (run p u) (λ a x. run (f a) x)
 run-bind (input b n k) f w =
     after-port (inputs b n w) (takes b n) (λ v u. run (k v) u) (λ v u. run (k v >>= f) u) (λ a v. run (f a) v) (λ v u. run-bind (k v) f u)
 run-bind (output b n v p) f w =

@@ -13,7 +13,7 @@ use Rattle.sheet.specs.declared.Repeat.the-variants.{WhileNotZ}
 use Rattle.sheet.specs.Width.{pick, bytesOf, wrapOf, signOf, evenOf}
 use Rattle.sheet.specs.Psw.{settled}
 use Rattle.sheet.specs.Registers.{inDs0, readReg}
-use Rattle.sheet.specs.Memory.{byteAt, readMem, writeMem, busCycles}
+use Rattle.sheet.specs.Memory.{byteAt, readMem, writeMem, busCycles, lost, lostBytes}
 use Rattle.sheet.specs.Act as act
 use Rattle.sheet.specs.Handler.{runBy, run, tally}
 use Rattle.sheet.specs.Operand.{regValue}
@@ -42,8 +42,8 @@ unfolding singles single run runBy act._>>=_ primitive steppedOf stepIndex sourc
 overlap-down = refl
 
 -- two words moved from an odd address to an even one: 3 cycles each
-odd-words : shown code (repeating Movbk true) (machine (words 0 2 1 6 0xf002) false 0 (replicate 12 5)) 2 ≡ record { cycles = 3 } ∷ record { cycles = 3 } ∷ []
-unfolding shown singles single run runBy act._>>=_ primitive steppedOf stepIndex sourceElement setTarget readMem writeMem byteAt tally busCycles
+odd-words : shown code (repeating Movbk true) (machine (words 0 2 1 6 0xf002) false 0 (replicate 12 5)) 2 ≡ record { cycles = 3; dropped = 0 } ∷ record { cycles = 3; dropped = 0 } ∷ []
+unfolding shown singles single run runBy act._>>=_ primitive steppedOf stepIndex sourceElement setTarget readMem writeMem byteAt tally busCycles lost lostBytes
 odd-words = refl
 
 -- F2 AE, a search for 9 among 7 8 9 9 with CW = 4, ends at the third element; among 7 8 7 8 not before the fourth; with CW = 0

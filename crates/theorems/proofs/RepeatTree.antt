@@ -36,7 +36,7 @@ pub accesses-then : (t t′ : List Event) → accesses (t ++ t′) ≡ accesses 
 unfolding accesses
 accesses-then [] t′ = refl
 accesses-then (reads b g o ∷ t) t′ = ap (λ l. reads b g o ∷ l) (accesses-then t t′)
-accesses-then (writes b g o v ∷ t) t′ = ap (λ l. writes b g o v ∷ l) (accesses-then t t′)
+accesses-then (writes b g o v d ∷ t) t′ = ap (λ l. writes b g o v d ∷ l) (accesses-then t t′)
 accesses-then (takes b n v ∷ t) t′ = ap (λ l. takes b n v ∷ l) (accesses-then t t′)
 accesses-then (gives b n v ∷ t) t′ = ap (λ l. gives b n v ∷ l) (accesses-then t t′)
 accesses-then (asks f ∷ t) t′ = accesses-then t t′

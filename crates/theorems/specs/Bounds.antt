@@ -1,13 +1,15 @@
 -- What is said of a call's bus cycles and of its refusals.
-use Prim.Native.Nat.{ℕ, _%_, _≤_}
+use Prim.Native.Nat.{ℕ, _+_, _%_, _≤_}
 use mathlib.Core.Bool.{true, false}
 use mathlib.Core.List.{List, [], _∷_}
 use mathlib.Core.Path.{_≡_}
 use lib.ListN.{length, getD}
 use Rattle.sheet.specs.declared.Bus.{Bus}
 use Rattle.sheet.specs.declared.Instr.{Instr}
+use Rattle.sheet.specs.Width.{bytesOf}
 use Rattle.sheet.specs.Registers.{SP, BP}
-use Rattle.sheet.specs.World.{World}
+use Rattle.sheet.specs.Handler.{Event, reads, writes, takes, gives, asks, copies, changes}
+use Rattle.sheet.specs.World.{World, world}
 use Rattle.sheet.specs.Contract.{Seen, stops, ends, report}
 use Rattle.sheet.specs.Reading.{known, scan}
 use Rattle.sheet.specs.FirstByte.{instruction}
@@ -25,6 +27,13 @@ stepTop = 1028
 abbrev pub interruptTop : ℕ
 interruptTop = 8
 
+-- the most bytes that they drop
+abbrev pub dropTop : ℕ
+dropTop = 518
+
+abbrev pub interruptDropTop : ℕ
+interruptDropTop = 6
+
 -- their refusals, as they are checked
 abbrev pub stepRefusals : List ℕ
 stepRefusals = 1 ∷ 2 ∷ 8 ∷ 3 ∷ 4 ∷ 5 ∷ 6 ∷ []
@@ -41,6 +50,22 @@ pub data Among (k : ℕ) : List ℕ → Type 0 where
 pub data Comes (n : ℕ) (refusals : List ℕ) : Seen Unit → Type 0 where
   ends-in : {w : World} {m : Bus} → m .cycles ≤ n → Comes n refusals (ends tt w m)
   stops-by : {k : ℕ} → Among k refusals → Comes n refusals (stops k)
+
+-- ---- what is written
+
+-- the bytes that an event writes, landed or dropped
+abbrev pub writtenBy : Event → ℕ
+writtenBy (reads b g o) = 0
+writtenBy (writes b g o v d) = bytesOf b
+writtenBy (takes b n v) = 0
+writtenBy (gives b n v) = 0
+writtenBy (asks f) = 0
+writtenBy (copies b) = 0
+writtenBy (changes c) = 0
+
+unfoldable pub bytesWritten : List Event → ℕ
+bytesWritten [] = 0
+bytesWritten (e ∷ t) = writtenBy e + bytesWritten t
 
 -- ---- PREPARE
 
@@ -64,7 +89,21 @@ OddIn w = Odd (w .state .file)
 abbrev pub preparing : ℕ → World
 preparing psw = machine (0 ∷ 0 ∷ 0 ∷ 0 ∷ 1 ∷ 1 ∷ 0 ∷ 0 ∷ 0 ∷ 0 ∷ 0 ∷ 0 ∷ 0 ∷ psw ∷ []) false 0 (0xc8 ∷ 0x00 ∷ 0x00 ∷ 0xff ∷ [])
 
--- the step is accepted and makes exactly n bus cycles
-pub record Makes (w : World) (n : ℕ) : Type 0 where
+-- the same in ROM, at FFFF:000C, without RAM and with BRK set
+abbrev pub preparingInRom : World
+preparingInRom =
+    world (record { file = 0 ∷ 0 ∷ 0 ∷ 0 ∷ 1 ∷ 1 ∷ 0 ∷ 0 ∷ 0 ∷ 0xffff ∷ 0 ∷ 0 ∷ 0xc ∷ 0xf102 ∷ []; marks = record { halted = false }; progress = record { tape = 0; log = 0; count = 0 } })
+    [] (0xc8 ∷ 0x00 ∷ 0x00 ∷ 0xff ∷ []) [] []
+
+-- the step is accepted, and one of the numbers of its bus is exactly n
+pub record Reaches (of : Bus → ℕ) (w : World) (n : ℕ) : Type 0 where
   pub after : World
-  pub is : stepReport w ≡ report 0 after (record { cycles = n })
+  pub bus : Bus
+  pub is : stepReport w ≡ report 0 after bus
+  pub count : of bus ≡ n
+
+abbrev pub Makes : World → ℕ → Type 0
+Makes w n = Reaches (λ b. b .cycles) w n
+
+abbrev pub Loses : World → ℕ → Type 0
+Loses w n = Reaches (λ b. b .dropped) w n

@@ -20,11 +20,11 @@ pub data InterruptCall (vector : ℕ) (maskable : Bool) (w : World) : ℕ → Wo
   interrupt-call : {number : ℕ} {s : State} {ram : List ℕ} {n : Bus} → Interrupts vector maskable (w .state) (w .ram) (w .rom) (w .tape) (w .log) number s ram n
       → InterruptCall vector maskable w number (world s ram (w .rom) (w .tape) (w .log)) n
 
--- it shows the bus cycles
+-- it shows bus cycles and dropped bytes
 abbrev pub code : Engine
 code = record { Shown = Bus; of = tally; Step = StepCall; Interrupt = InterruptCall }
 
--- the bus cycles of calls together
+-- those of calls together
 unfoldable pub total : List Bus → Bus
 total [] = nothing
 total (n ∷ l) = n ⊕ total l

@@ -12,7 +12,7 @@ use Rattle.theorems.specs.Repeat.{Engine}
 unfoldable pub accesses : List Event → List Event
 accesses [] = []
 accesses (reads b g o ∷ t) = reads b g o ∷ accesses t
-accesses (writes b g o v ∷ t) = writes b g o v ∷ accesses t
+accesses (writes b g o v d ∷ t) = writes b g o v d ∷ accesses t
 accesses (takes b n v ∷ t) = takes b n v ∷ accesses t
 accesses (gives b n v ∷ t) = gives b n v ∷ accesses t
 accesses (asks f ∷ t) = accesses t

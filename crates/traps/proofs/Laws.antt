@@ -49,12 +49,12 @@ save-is f g h ram ram₁ ram₂ rom old x n m e l p q k =
     memory-seq _ {t = 2} {u = 4} (pushed-psw f g ram ram₁ rom old n e l p) (memory-free _ (file-flags entering q) k)
 
 -- a word at an even offset takes one cycle
-even-word : (o : ℕ) (n : Bus) → Costs true o n → o % 2 ≡ 0 → n .cycles ≤ 1
+even-word : (o : ℕ) (n : Bus) → Costs true o 0 n → o % 2 ≡ 0 → n .cycles ≤ 1
 unfolding busCycles
 even-word o n e h = rw (e .is) (omega arith)
 
 loads-even : (ram rom : List ℕ) (o v : ℕ) (n : Bus) → Loads true ram rom 0 o v n → o % 2 ≡ 0 → (f : List ℕ) → OnMemory ℕ (peek true 0 o) f ram rom v f ram n 1
-loads-even ram rom o v n h e f = record { most = even-word o n (h .cost) e; at = h .at f .at }
+loads-even ram rom o v n h e f = record { most = even-word o n (h .cost) e; fair = h .at f .fair; at = h .at f .at }
 
 pub fetches : (ram rom : List ℕ) (v at pc ps : ℕ) (n m r : Bus) → at ≡ 4 * v → Loads true ram rom 0 at pc n → Loads true ram rom 0 (at + 2) ps m → Joins n m r → Fetches ram rom v pc ps r
 fetches ram rom v at pc ps n m r e p q j =
@@ -62,6 +62,7 @@ fetches ram rom v at pc ps n m r e p q j =
     let b = even-word (at + 2) m (q .cost) (omega arith) in
     record {
       most = rw (j .is) (omega arith);
+      fair = rw (j .is) (let x = p .fair in let y = q .fair in omega arith);
       first = n;
       second = m;
       sum = j .is;

@@ -10,6 +10,7 @@ use Rattle.sheet.specs.Contract.{OnMemory}
 
 pub record Fetches (ram rom : List ℕ) (v pc ps : ℕ) (n : Bus) : Type 0 where
   pub most : n .cycles ≤ 2
+  pub fair : n .dropped ≤ 2 * n .cycles
   pub first : Bus
   pub second : Bus
   pub sum : n ≡ first ⊕ second

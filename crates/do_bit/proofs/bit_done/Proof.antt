@@ -1,3 +1,4 @@
+use Rattle.tally.proofs.Laws.{sums}
 use Rattle.sheet.specs.Bits.{bitDone}
 use Rattle.do_bit.proofs.Laws.{at-not, at-test, bit-known}
 use borrow.Author.Needs.{needs}
@@ -5,7 +6,7 @@ use Rattle.do_bit.proofs.bit_done.Statement.{statement}
 use Rattle.do_bit.proofs.bit_done.Tie as tie
 
 returns : tie.Need-returns
-returns c = search (at-test, needs)
+returns c = search (at-test, sums, needs)
 
 returns-4 : tie.Need-returns-4
 returns-4 c = search (at-not, needs)
@@ -19,6 +20,7 @@ bit-done-spec =
     (λ c. search needs)
     (λ c κs. search needs)
     (λ c. search needs)
+    (λ c κs. search needs)
     (λ c. search needs)
     (λ c κs. search needs)
     (λ c. search needs)

@@ -1,10 +1,11 @@
+use Rattle.tally.proofs.Laws.{sums}
 use Rattle.do_branch.proofs.Laws.{br-far-at-is}
 use borrow.Author.Needs.{needs}
 use Rattle.do_branch.proofs.br_far_at.Statement.{statement}
 use Rattle.do_branch.proofs.br_far_at.Tie as tie
 
 returns : tie.Need-returns
-returns c = search (br-far-at-is, needs)
+returns c = search (br-far-at-is, sums, needs)
 
 pub br-far-at-spec : {M : Type 1} → statement M
 br-far-at-spec =
@@ -16,5 +17,5 @@ br-far-at-spec =
     (λ c κs. search needs)
     (λ c κs. search needs)
     (λ c κs. search needs)
-    (λ c. search needs)
+    (λ c κs. search needs)
     returns)

@@ -1,3 +1,4 @@
+use Rattle.tally.proofs.Laws.{sums}
 use Rattle.sheet.specs.Branch.{branch}
 use Rattle.sheet.proofs.Lifted.{memory-known}
 use Rattle.do_branch.proofs.Laws.{jump-known}
@@ -28,12 +29,15 @@ branch-spec =
     (λ c κs. search needs)
     (λ c. search needs)
     (λ c κs. search needs)
+    (λ c κs. search needs)
     (λ c. search needs)
+    (λ c κs. search needs)
     (λ c κs. search needs)
     (λ c. search needs)
     (λ c κs. search needs)
     (λ c. search needs)
     (λ c κs. search needs)
+    (λ c κs. search needs)
     (λ c. search needs)
     (λ c κs. search needs)
     (λ c. search needs)
@@ -52,10 +56,10 @@ branch-spec =
     (λ c. search (memory-known branch, needs))
     (λ c. search needs)
     (λ c. search (memory-known branch, needs))
-    (λ c. search (jump-known, needs))
-    (λ c. search (jump-known, needs))
+    (λ c. search (jump-known, sums, needs))
+    (λ c. search (jump-known, sums, needs))
     (λ c. search needs)
     (λ c. search (memory-known branch, needs))
-    (λ c. search (jump-known, needs))
+    (λ c. search (jump-known, sums, needs))
     (λ c. search needs)
     (λ c. search (memory-known branch, needs)))

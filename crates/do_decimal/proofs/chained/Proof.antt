@@ -7,17 +7,35 @@ use Rattle.do_decimal.proofs.chained.Statement.{statement}
 use Rattle.do_decimal.proofs.chained.Tie as tie
 
 abbrev Inv-loop : tie.InvT-loop
-Inv-loop file ram₀ rom sub stores seg last i₀ cy₀ zero₀ cycles₀ ram i cy zero cycles =
-    (i ≤ last) × (length ram ≡ length ram₀) × Turns sub stores seg last file ram₀ rom i (record { cy = cy; zero = zero }) ram cycles
+Inv-loop file ram₀ rom sub stores seg last i₀ cy₀ zero₀ t₀ ram i cy zero t =
+    (i ≤ last) × (length ram ≡ length ram₀) × Turns sub stores seg last file ram₀ rom i (record { cy = cy; zero = zero }) ram t
 
 abbrev μ-loop : tie.MeasureT-loop
-μ-loop file ram₀ rom sub stores seg last i₀ cy₀ zero₀ cycles₀ ram i cy zero cycles = last - i
+μ-loop file ram₀ rom sub stores seg last i₀ cy₀ zero₀ t₀ ram i cy zero t = last - i
+
+none-requires : tie.Need-none-requires Inv-loop μ-loop
+none-requires c κs = search needs
 
 loop-holds : tie.Need-loop-holds Inv-loop μ-loop
 loop-holds c = search (turns-none, needs)
 
+link-requires : tie.Need-link-requires Inv-loop μ-loop
+link-requires c κs = search needs
+
+both-requires : tie.Need-both-requires Inv-loop μ-loop
+both-requires c κs = search needs
+
+add-i : tie.Need-add-i Inv-loop μ-loop
+add-i c = search needs
+
+loop-less : tie.Need-loop-less Inv-loop μ-loop
+loop-less c = search needs
+
 loop-again : tie.Need-loop-again Inv-loop μ-loop
 loop-again c = search (turns-more, needs)
+
+same-length : tie.Need-same-length Inv-loop μ-loop
+same-length c = search needs
 
 returns : tie.Need-returns Inv-loop μ-loop
 returns c = search (turns-end, needs)
@@ -28,11 +46,12 @@ chained-spec =
     (tie.spec
     Inv-loop
     μ-loop
+    none-requires
     loop-holds
-    (λ c κs. search needs)
-    (λ c. search needs)
-    (λ c. search needs)
-    (λ c. search needs)
+    link-requires
+    both-requires
+    add-i
+    loop-less
     loop-again
-    (λ c. search needs)
+    same-length
     returns)

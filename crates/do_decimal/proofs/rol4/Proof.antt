@@ -1,10 +1,11 @@
+use Rattle.tally.proofs.Laws.{sums}
 use Rattle.do_decimal.proofs.Laws.{rol4-is}
 use borrow.Author.Needs.{needs}
 use Rattle.do_decimal.proofs.rol4.Statement.{statement}
 use Rattle.do_decimal.proofs.rol4.Tie as tie
 
 returns : tie.Need-returns
-returns c = search (rol4-is, needs)
+returns c = search (rol4-is, sums, needs)
 
 pub rol4-spec : {M : Type 1} → statement M
 rol4-spec =
@@ -17,6 +18,6 @@ rol4-spec =
     (λ c κs. search needs)
     (λ c κs. search needs)
     (λ c κs. search needs)
-    (λ c. search needs)
+    (λ c κs. search needs)
     (λ c. search needs)
     returns)

@@ -1,10 +1,11 @@
+use Rattle.tally.proofs.Laws.{sums}
 use Rattle.do_decimal.proofs.Laws.{ror4-is}
 use borrow.Author.Needs.{needs}
 use Rattle.do_decimal.proofs.ror4.Statement.{statement}
 use Rattle.do_decimal.proofs.ror4.Tie as tie
 
 returns : tie.Need-returns
-returns c = search (ror4-is, needs)
+returns c = search (ror4-is, sums, needs)
 
 pub ror4-spec : {M : Type 1} → statement M
 ror4-spec =
@@ -17,6 +18,6 @@ ror4-spec =
     (λ c κs. search needs)
     (λ c κs. search needs)
     (λ c κs. search needs)
-    (λ c. search needs)
+    (λ c κs. search needs)
     (λ c. search needs)
     returns)

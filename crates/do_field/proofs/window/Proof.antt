@@ -1,10 +1,11 @@
+use Rattle.tally.proofs.Laws.{sums}
 use Rattle.do_field.proofs.Laws.{window-one, window-two}
 use borrow.Author.Needs.{needs}
 use Rattle.do_field.proofs.window.Statement.{statement}
 use Rattle.do_field.proofs.window.Tie as tie
 
 returns : tie.Need-returns
-returns c = search (window-two, needs)
+returns c = search (window-two, sums, needs)
 
 returns-2 : tie.Need-returns-2
 returns-2 c = search (window-one, needs)
@@ -20,7 +21,7 @@ window-spec =
     (λ c. search needs)
     (λ c. search needs)
     (λ c. search needs)
-    (λ c. search needs)
+    (λ c κs. search needs)
     returns
     (λ c. search needs)
     returns-2)

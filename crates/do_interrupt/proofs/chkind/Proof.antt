@@ -1,10 +1,11 @@
+use Rattle.tally.proofs.Laws.{sums}
 use Rattle.do_interrupt.proofs.Laws.{chkind-is}
 use borrow.Author.Needs.{needs}
 use Rattle.do_interrupt.proofs.chkind.Statement.{statement}
 use Rattle.do_interrupt.proofs.chkind.Tie as tie
 
 returns : tie.Need-returns
-returns c = search (chkind-is, needs)
+returns c = search (chkind-is, sums, needs)
 
 pub chkind-spec : {M : Type 1} → statement M
 chkind-spec =
@@ -14,6 +15,6 @@ chkind-spec =
     (λ c κs. search needs)
     (λ c κs. search needs)
     (λ c κs. search needs)
-    (λ c. search needs)
+    (λ c κs. search needs)
     (λ c. search needs)
     returns)

@@ -1,10 +1,11 @@
+use Rattle.tally.proofs.Laws.{sums}
 use Rattle.do_interrupt.proofs.Laws.{reti-is}
 use borrow.Author.Needs.{needs}
 use Rattle.do_interrupt.proofs.reti.Statement.{statement}
 use Rattle.do_interrupt.proofs.reti.Tie as tie
 
 returns : tie.Need-returns
-returns c = search (reti-is, needs)
+returns c = search (reti-is, sums, needs)
 
 pub reti-spec : {M : Type 1} → statement M
 reti-spec =
@@ -17,6 +18,5 @@ reti-spec =
     (λ c. search needs)
     (λ c κs. search needs)
     (λ c. search needs)
-    (λ c. search needs)
-    (λ c. search needs)
+    (λ c κs. search needs)
     returns)

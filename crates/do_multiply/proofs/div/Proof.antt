@@ -1,3 +1,4 @@
+use Rattle.tally.proofs.Laws.{sums}
 use Rattle.sheet.specs.Multiply.{div, signedQuotient}
 use Rattle.do_multiply.proofs.Laws.{quotient-by, signed-within}
 use borrow.Author.Needs.{needs}
@@ -9,7 +10,7 @@ divided-requires c κs = search (signed-within, needs)
 
 returns : tie.Need-returns
 unfolding div
-returns c = search (quotient-by signedQuotient, needs)
+returns c = search (quotient-by signedQuotient, sums, needs)
 
 pub div-spec : {M : Type 1} → statement M
 div-spec =
@@ -19,6 +20,6 @@ div-spec =
     (λ c κs. search needs)
     (λ c κs. search needs)
     divided-requires
-    (λ c. search needs)
+    (λ c κs. search needs)
     (λ c. search needs)
     returns)

@@ -1,3 +1,4 @@
+use Rattle.tally.proofs.Laws.{sums}
 use Rattle.do_multiply.proofs.Laws.{both-held, quotient-is, trap-is}
 use borrow.Author.Needs.{needs}
 use Rattle.do_multiply.proofs.divided.Statement.{statement}
@@ -7,7 +8,7 @@ set-quotient-requires : tie.Need-set-quotient-requires
 set-quotient-requires c κs = search (both-held, needs)
 
 returns : tie.Need-returns
-returns c = search (quotient-is, needs)
+returns c = search (quotient-is, sums, needs)
 
 returns-2 : tie.Need-returns-2
 returns-2 c = search (trap-is, needs)
@@ -21,6 +22,7 @@ divided-spec =
     (λ c. search needs)
     (λ c κs. search needs)
     (λ c. search needs)
+    (λ c κs. search needs)
     (λ c. search needs)
     (λ c κs. search needs)
     (λ c. search needs)

@@ -1,3 +1,4 @@
+use Rattle.tally.proofs.Laws.{sums}
 use Rattle.sheet.specs.Multiply.{divu, unsignedQuotient}
 use Rattle.do_multiply.proofs.Laws.{quotient-by, unsigned-within}
 use borrow.Author.Needs.{needs}
@@ -9,7 +10,7 @@ divided-requires c κs = search (unsigned-within, needs)
 
 returns : tie.Need-returns
 unfolding divu
-returns c = search (quotient-by unsignedQuotient, needs)
+returns c = search (quotient-by unsignedQuotient, sums, needs)
 
 pub divu-spec : {M : Type 1} → statement M
 divu-spec =
@@ -19,6 +20,6 @@ divu-spec =
     (λ c κs. search needs)
     (λ c κs. search needs)
     divided-requires
-    (λ c. search needs)
+    (λ c κs. search needs)
     (λ c. search needs)
     returns)

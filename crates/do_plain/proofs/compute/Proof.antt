@@ -1,3 +1,4 @@
+use Rattle.tally.proofs.Laws.{sums}
 use Rattle.do_plain.proofs.Laws.{at-file}
 use Rattle.sheet.specs.Execute.{computing}
 use Rattle.sheet.proofs.Lifted.{memory-known}
@@ -11,7 +12,7 @@ returns c = search (memory-known computing, needs)
 
 returns-2 : tie.Need-returns-2
 unfolding computing
-returns-2 c = search (at-file computing, needs)
+returns-2 c = search (at-file computing, sums, needs)
 
 returns-3 : tie.Need-returns-3
 unfolding computing
@@ -36,6 +37,7 @@ compute-spec =
     (λ c. search needs)
     (λ c κs. search needs)
     (λ c. search needs)
+    (λ c κs. search needs)
     (λ c κs. search needs)
     (λ c. search needs)
     (λ c κs. search needs)

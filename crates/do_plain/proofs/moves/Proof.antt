@@ -1,3 +1,4 @@
+use Rattle.tally.proofs.Laws.{sums}
 use Rattle.do_plain.proofs.Laws.{at-file}
 use Rattle.sheet.proofs.Lifted.{memory-known}
 use Rattle.sheet.specs.Execute.{moving}
@@ -19,7 +20,7 @@ returns-3 c = search (memory-known moving, needs)
 
 returns-4 : tie.Need-returns-4
 unfolding moving
-returns-4 c = search (at-file moving, needs)
+returns-4 c = search (at-file moving, sums, needs)
 
 pub moves-spec : {M : Type 1} → statement M
 moves-spec =
@@ -32,6 +33,7 @@ moves-spec =
     (λ c. search needs)
     (λ c κs. search needs)
     (λ c. search needs)
+    (λ c κs. search needs)
     (λ c κs. search needs)
     (λ c. search needs)
     returns

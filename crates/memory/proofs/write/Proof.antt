@@ -4,10 +4,10 @@ use Rattle.memory.proofs.write.Statement.{statement}
 use Rattle.memory.proofs.write.Tie as tie
 
 returns : tie.Need-returns
-returns c = search write-word
+returns c = search (write-word, needs)
 
 returns-2 : tie.Need-returns-2
-returns-2 c = search write-byte
+returns-2 c = search (write-byte, needs)
 
 pub write-spec : {M : Type 1} → statement M
 write-spec =
@@ -16,8 +16,11 @@ write-spec =
     (λ c. search needs)
     (λ c κs. search needs)
     (λ c κs. search needs)
+    (λ c κs. search needs)
     (λ c. search needs)
     (λ c κs. search needs)
+    (λ c κs. search needs)
+    (λ c. search needs)
     (λ c. search needs)
     returns
     (λ c. search needs)

@@ -1,10 +1,10 @@
-use Rattle.memory.proofs.Laws.{dropped}
+use Rattle.memory.proofs.Laws.{landed, dropped}
 use borrow.Author.Needs.{needs}
 use Rattle.memory.proofs.write_byte.Statement.{statement}
 use Rattle.memory.proofs.write_byte.Tie as tie
 
 returns : tie.Need-returns
-returns c = cc
+returns c = search (landed, needs)
 
 returns-2 : tie.Need-returns-2
 returns-2 c = search (dropped, needs)
