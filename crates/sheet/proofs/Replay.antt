@@ -8,7 +8,7 @@ use lib.Dec.{leb}
 use Rattle.sheet.specs.Width.{pick, bytesOf, wrapOf}
 use Rattle.sheet.specs.Psw.{Choice, flagOf, settled}
 use Rattle.sheet.specs.Registers.{fileOf, written}
-use Rattle.sheet.specs.Memory.{readMem, writeMem}
+use Rattle.sheet.specs.Memory.{readMem, writeMem, lostBytes}
 use Rattle.sheet.specs.Log.{rule, keyOf, recordBytes, writeLog}
 use Rattle.sheet.specs.World.{World, world, withState, withRam, pswOf, withFile, withPsw, withHalted, recorded}
 use Rattle.sheet.specs.Act.{Act, pure, refuse, get, put, ask, copy, flags, load, store, input, output, halt}
@@ -31,7 +31,7 @@ logged b m x = record { ram = x .ram; log = writeLog (x .log) (x .at) b; at = x 
 
 abbrev pub effect : Event → Track → Track
 effect (reads b g o) x = x
-effect (writes b g o v) x = record { ram = writeMem b (x .ram) g o v; log = x .log; at = x .at; tape = x .tape; count = x .count }
+effect (writes b g o v d) x = record { ram = writeMem b (x .ram) g o v; log = x .log; at = x .at; tape = x .tape; count = x .count }
 effect (takes b n v) x = logged (recordBytes rule (x .count) (keyOf false b n) v) (bytesOf b) x
 effect (gives b n v) x = logged (recordBytes rule (x .count) (keyOf true b n) v) 0 x
 effect (asks f) x = x
@@ -101,7 +101,7 @@ replays-all (copy b k) u w = then-replays (copies b) (replays-all (k (wrapOf b (
 replays-all (flags c p) u w =
     then-replays (changes c) (replays-all p (λ i. u (suc i)) (withState w (withPsw (w .state) (settled (u 0) c (pswOf (w .state))))))
 replays-all (load b g o k) u w = then-replays (reads b g o) (replays-all (k (readMem b (w .ram) (w .rom) g o)) u w)
-replays-all (store b g o v p) u w = then-replays (writes b g o v) (replays-all p u (withRam w (writeMem b (w .ram) g o v)))
+replays-all (store b g o v p) u w = then-replays (writes b g o v (lostBytes b (w .ram) g o)) (replays-all p u (withRam w (writeMem b (w .ram) g o v)))
 replays-all (input b n k) u w = ported-replays (λ v. takes b n v) (λ v w′. runBy u (k v) w′) (inputs-through b n w) (λ v w′. replays-all (k v) u w′)
 replays-all (output b n v p) u w = ported-replays (λ x. gives b n v) (λ x w′. runBy u p w′) (outputs-through b n v w) (λ x w′. replays-all p u w′)
 replays-all (halt b p) u w = replays-all p u (withState w (withHalted (w .state) b))

@@ -34,7 +34,7 @@ use Rattle.theorems.proofs.Widths.{byte-top}
 use Rattle.theorems.proofs.BoundsRules.{Within, within, cycles, short-of, MostOf, Most, seq, any, up, of-pure, of-registers, of-set, of-flag, of-halted}
 use Rattle.theorems.proofs.BoundsOperands.{of-trap}
 use Rattle.theorems.proofs.BoundsGroups.{of-transfer, of-calculate, of-untrapped, of-multiply, of-convert, of-shift, of-bits, of-decimal, of-field}
-use Rattle.theorems.proofs.BoundsFlow.{of-stack, of-branch, of-conditional, of-interrupts, of-block, of-ports, of-control}
+use Rattle.theorems.proofs.BoundsFlow.{levelOf, level-top, of-stack, of-branch, of-conditional, of-interrupts, of-block, of-ports, of-control}
 use Rattle.theorems.proofs.BoundsReading.{levelAmong, Fine, ScannedTo, read, unread, scanned}
 use Rattle.theorems.proofs.BoundsCodes.{of-instruction}
 

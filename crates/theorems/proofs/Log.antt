@@ -44,7 +44,7 @@ unused {rs = rs} u a l c = record { within = rw (a, l) (u .within); same = rw (a
 
 used-event : (e : Event) (n : ℕ) (rs : List Row) (x : Track) → Used n rs x → Used (sinceUse n (useOf e)) (rs ++ rowsOfUse n (useOf e)) (effect e x)
 used-event (reads b g o) n rs x u = unused u refl refl refl
-used-event (writes b g o v) n rs x u = unused u refl refl refl
+used-event (writes b g o v d) n rs x u = unused u refl refl refl
 used-event (takes b p v) n rs x u = rw (u .count) (one-more n rs (rowOf (min n (rule .ceiling)) (keyOf false b p) v) _ x u)
 used-event (gives b p v) n rs x u = rw (u .count) (one-more n rs (rowOf (min n (rule .ceiling)) (keyOf true b p) v) 0 x u)
 used-event (asks f) n rs x u = unused u refl refl refl

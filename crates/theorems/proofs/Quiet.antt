@@ -9,7 +9,7 @@ use lib.Dec.{leb, lit≤}
 use Rattle.sheet.specs.Width.{pick, bytesOf, wrapOf}
 use Rattle.sheet.specs.Psw.{Flag, Effect, Choice, flagOf, settled}
 use Rattle.sheet.specs.Registers.{PSW, File, fileOf, written}
-use Rattle.sheet.specs.Memory.{readMem, writeMem}
+use Rattle.sheet.specs.Memory.{readMem, writeMem, lostBytes}
 use Rattle.sheet.specs.Log.{rule, keyOf, recordBytes}
 use Rattle.sheet.specs.World.{World, withState, withRam, pswOf, withFile, withPsw, withHalted}
 use Rattle.sheet.specs.Act.{Act, pure, get, put, ask, copy, flags, load, store, input, output, halt, _>>=_}
@@ -59,5 +59,5 @@ quiet-silent (copy b k) (q-copy h) u w = silent-then (copies b) (λ n t. refl) (
 quiet-silent (flags c p) (q-flags h) u w =
     silent-then (changes c) (λ n t. refl) (quiet-silent p h (λ i. u (suc i)) (withState w (withPsw (w .state) (settled (u 0) c (pswOf (w .state))))))
 quiet-silent (load b g o k) (q-load h) u w = silent-then (reads b g o) (λ n t. refl) (quiet-silent (k (readMem b (w .ram) (w .rom) g o)) (h _) u w)
-quiet-silent (store b g o v p) (q-store h) u w = silent-then (writes b g o v) (λ n t. refl) (quiet-silent p h u (withRam w (writeMem b (w .ram) g o v)))
+quiet-silent (store b g o v p) (q-store h) u w = silent-then (writes b g o v (lostBytes b (w .ram) g o)) (λ n t. refl) (quiet-silent p h u (withRam w (writeMem b (w .ram) g o v)))
 quiet-silent (halt b p) (q-halt h) u w = quiet-silent p h u (withState w (withHalted (w .state) b))

@@ -9,7 +9,7 @@ use Rattle.sheet.specs.declared.Instr.{Instr}
 use Rattle.sheet.specs.Width.{bytesOf}
 use Rattle.sheet.specs.Registers.{SP, BP}
 use Rattle.sheet.specs.Handler.{Event, reads, writes, takes, gives, asks, copies, changes}
-use Rattle.sheet.specs.World.{World, world}
+use Rattle.sheet.specs.World.{World, world, marksOf}
 use Rattle.sheet.specs.Contract.{Seen, stops, ends, report}
 use Rattle.sheet.specs.Reading.{known, scan}
 use Rattle.sheet.specs.FirstByte.{instruction}
@@ -92,7 +92,7 @@ preparing psw = machine (0 ∷ 0 ∷ 0 ∷ 0 ∷ 1 ∷ 1 ∷ 0 ∷ 0 ∷ 0 ∷ 0
 -- the same in ROM, at FFFF:000C, without RAM and with BRK set
 abbrev pub preparingInRom : World
 preparingInRom =
-    world (record { file = 0 ∷ 0 ∷ 0 ∷ 0 ∷ 1 ∷ 1 ∷ 0 ∷ 0 ∷ 0 ∷ 0xffff ∷ 0 ∷ 0 ∷ 0xc ∷ 0xf102 ∷ []; marks = record { halted = false }; progress = record { tape = 0; log = 0; count = 0 } })
+    world (record { file = 0 ∷ 0 ∷ 0 ∷ 0 ∷ 1 ∷ 1 ∷ 0 ∷ 0 ∷ 0 ∷ 0xffff ∷ 0 ∷ 0 ∷ 0xc ∷ 0xf102 ∷ []; marks = marksOf false false; progress = record { tape = 0; log = 0; count = 0 } })
     [] (0xc8 ∷ 0x00 ∷ 0x00 ∷ 0xff ∷ []) [] []
 
 -- the step is accepted, and one of the numbers of its bus is exactly n

@@ -15,7 +15,7 @@ pub data Use : Type 0 where
 
 abbrev pub useOf : Event → Use
 useOf (reads b g o) = none
-useOf (writes b g o v) = none
+useOf (writes b g o v d) = none
 useOf (takes b n v) = access false b n v
 useOf (gives b n v) = access true b n v
 useOf (asks f) = none

@@ -7,7 +7,7 @@ returns : tie.Need-returns
 returns c = search (proceeds-stop, needs)
 
 returns-2 : tie.Need-returns-2
-returns-2 c = search (proceeds-done, c .before .before .before .before .before .before .before .before .before .before .before .before .before .before .before .before .is-traced .ensures, c .before .before .before .before .before .before .before .before .before .before .before .before .before .before .before .before .before .before .begun .ensures, needs)
+returns-2 c = search (proceeds-done, c .before .before .settle .ensures, c .before .before .before .before .before .before .before .before .before .before .before .launch .ensures, c .before .before .before .before .before .before .before .before .before .before .before .before .before .before .before .begin .ensures, c .before .before .before .before .before .before .before .before .before .before .before .before .before .before .before .before .is-traced .ensures, c .before .before .before .before .before .before .before .before .before .before .before .before .before .before .before .before .before .before .begun .ensures, needs)
 
 pub proceed-spec : {M : Type 1} → statement M
 proceed-spec =
