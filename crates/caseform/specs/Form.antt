@@ -56,9 +56,9 @@ caseOf header =
 unfoldable pub withAnswer : ℕ → Marks → ℕ → List ℕ → List ℕ
 withAnswer number marks steps l = doublePut (set (set (set l 0 number) 1 (boolByte (marks .halted))) 70 (boolByte (marks .loaded))) 2 steps
 
--- with the bus cycles put in, and the dropped bytes, which nobody counts yet
+-- with the bus cycles and the dropped bytes put in
 unfoldable pub withTally : Bus → List ℕ → List ℕ
-withTally bus l = doublePut (doublePut l 6 (bus .cycles)) 58 0
+withTally bus l = doublePut (doublePut l 6 (bus .cycles)) 58 (bus .dropped)
 
 -- with the first registers of a file put in, from byte 10 on
 unfoldable pub withFile : List ℕ → ℕ → List ℕ → List ℕ

@@ -135,7 +135,7 @@ fn put_tally(out: &mut [u8; 88], bus: Bus)
     ensures { λ _. ⌜ now (out .exit) ≡ withTally bus (now (out .entry)) ⌝ }
 {
     put_double(out, 6, bus.cycles);
-    put_double(out, 58, 0);
+    put_double(out, 58, bus.dropped);
 }
 
 fn put_file(out: &mut [u8; 88], file: &[u16; 14])

@@ -6,10 +6,6 @@ use crate::judge::result::{fields, length_for, Field, Value};
 use crate::memory::Memory;
 use crate::state::PS;
 use std::io::{self, Write};
-use std::ops::Range;
-
-/// The bytes of a result that are not compared: the proved engine does not count dropped bytes yet.
-const NOT_COMPARED: Range<usize> = 58..62;
 
 const FLAG_NAMES: [(u16, &str); 9] = [
     (0, "CY"),
@@ -62,7 +58,7 @@ pub fn diff(
         summary.calls[case.call as usize] += 1;
         let length = length_for(case.call);
         match (left.take(length), right.take(length)) {
-            (Some(a), Some(b)) if compared(a).eq(compared(b)) => {}
+            (Some(a), Some(b)) if a == b => {}
             (Some(a), Some(b)) => {
                 summary.mismatched += 1;
                 let names = (left.name, right.name);
@@ -103,11 +99,6 @@ pub fn diff(
         summary.cases, summary.mismatched
     )?;
     Ok(summary)
-}
-
-fn compared(answer: &[u8]) -> impl Iterator<Item = &u8> {
-    let part = |(index, byte)| (!NOT_COMPARED.contains(&index)).then_some(byte);
-    answer.iter().enumerate().filter_map(part)
 }
 
 impl<'a> Answers<'a> {
