@@ -1,5 +1,5 @@
 # v30 demo: the demonstration meet, and how the machine stopped
 [ $# -eq 0 ] || odd "'v30 demo' takes nothing more"
 . "$home/commands/meet.sh" "$home/roms/classes/tapes/season-06.tape"
-echo
-show "$room/report"
+{ echo; cat "$room/report"; } >"$room/rest"
+show "$room/rest"
