@@ -17,7 +17,7 @@ pub fn up(n: u8, x: u16) -> u32
     (x as u32) << at_most_16(n)
 }
 
-// Halved n times, where each time half of m comes in above.
+// Halved n times. Where ones come in above, m is the number that no operand reaches; where zeros do, it is 0.
 pub fn down(n: u8, m: u32, x: u16) -> u16
     requires { ⌜ m ≤ 65536 ⌝ }
     ensures { λ r. ⌜ r ≡ downBy n m x ⌝ }
@@ -36,7 +36,7 @@ fn turn(r: u8, s: u8, x: u32) -> u32
     (x >> r) + (low << s)
 }
 
-// Whole turns change nothing: only what lies beyond so many bits, as in no operand, comes in below.
+// A number of so many bits comes round to itself. What lies beyond them, as in no operand, comes in below, until nothing does.
 fn whole_turns(bits: u8, times: u8, x: u32) -> u32
     requires { ⌜ (bits ≤ 17) × (x < 131072) ⌝ }
     ensures { λ r. ⌜ (r ≡ turns bits times x) × (r ≤ x) ⌝ }
@@ -51,7 +51,7 @@ fn whole_turns(bits: u8, times: u8, x: u32) -> u32
     turn(bits, 0, once)
 }
 
-// n places to the right: after so many bits it comes round again.
+// n places to the right: whole turns, and then only the rest of n counts.
 pub fn right(bits: u8, n: u8, x: u32) -> u32
     requires { ⌜ (0 < bits) × ((bits ≤ 17) × ((x < 131072) × (x < 2 ^ (bits + bits)))) ⌝ }
     ensures { λ r. ⌜ r ≡ rightBy bits n x ⌝ }
@@ -60,7 +60,7 @@ pub fn right(bits: u8, n: u8, x: u32) -> u32
     turn(rest, bits - rest, whole_turns(bits, n / bits, x))
 }
 
-// n places to the left: to the right by what is left of a turn.
+// n places to the left: only the rest of n counts, and it is what is left of a turn to the right.
 pub fn left(bits: u8, n: u8, x: u32) -> u32
     requires { ⌜ (0 < bits) × ((bits ≤ 17) × (x < 2 ^ bits)) ⌝ }
     ensures { λ r. ⌜ (rightBy bits n r ≡ x) × (r < 2 ^ bits) ⌝ }

@@ -5,7 +5,7 @@ use Rattle.shift.proofs.to_left.Tie as tie
 
 returns : tie.Need-returns
 unfolding toLeft
-returns c = cc
+returns c = rw (c .sign .ensures, c .before .wrap .ensures, c .before .before .digit .ensures .0)
 
 pub to-left-spec : {M : Type 1} → statement M
 to-left-spec =

@@ -5,7 +5,7 @@ use Rattle.shift.proofs.to_right.Tie as tie
 
 returns : tie.Need-returns
 unfolding toRight
-returns c = cc
+returns c = rw (c .only .ensures .0, c .before .half .ensures .0)
 
 pub to-right-spec : {M : Type 1} → statement M
 to-right-spec = tie.close (tie.spec (λ c κs. search needs) (λ c κs. search needs) (λ c. search needs) returns)
