@@ -1,4 +1,4 @@
--- No step drops more than 518 bytes, PREPARE's 256 words and the three of the single-step trap, and no interrupt call more than 6; and 518 is reached.
+-- No step drops more than 518 bytes, PREPARE's 256 words and the three of the single-step trap, and no interrupt call more than 6.
 use Prim.Native.Nat.{ℕ, zero, suc, _+_, _*_, _≤_}
 use mathlib.Core.Path.{_≡_, refl}
 use mathlib.Core.Bool.{Bool, true, false}
