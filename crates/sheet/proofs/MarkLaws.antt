@@ -120,6 +120,15 @@ load-calm (Blocks k b seg q) size e = absurd (true≢false (sym e))
 load-calm (Ports i) size e = absurd (true≢false (sym e))
 load-calm (Controls i) size e = absurd (true≢false (sym e))
 
+-- the single-step trap does not follow the load, whatever BRK was
+pub load-untraced : (i : Instr) (traced trapped : Bool) → loadsSegment i ≡ true → singleStep ((traced && not (loadsSegment i)) && not trapped) ≡ act.pure tt
+unfolding singleStep
+load-untraced i traced trapped l = rw l (go traced)
+  where
+    go : (t : Bool) → singleStep ((t && not true) && not trapped) ≡ act.pure tt
+    go true = refl
+    go false = refl
+
 -- ---- what a call leaves
 
 unhalted-of : {w v : World} {t : List Event} → Leaves {A = Unit {0}} (Unhalted w) (done tt v t) → v .state .marks ≡ w .state .marks

@@ -1,5 +1,5 @@
 -- INS and EXT: bit fields in memory.
--- 001:648-674, 1276-1283; 000:958-965; 01:60
+-- 001:648-674, 1276-1283; 000:958-965; 01:19, 60
 use mathlib.Core.Bool.{Bool, true, false}
 use Prim.Native.Nat.{ℕ, _+_, _-_, _*_, _/_, _%_, _^_, min}
 use lib.Dec.{leb, ltb}

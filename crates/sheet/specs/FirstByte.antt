@@ -220,7 +220,7 @@ abbrev pub bytes00 : Prefixes → List Row
 bytes00 p =
     sixCodes p 0x00 Add  -- ADD 000:978-983
     ++ (row 0x06 1 (pushSegment inDs1)  -- PUSH DS1 001:1579
-    ∷ row 0x07 1 (popSegment inDs1)  -- POP DS1 001:1586
+    ∷ row 0x07 1 (popSegment inDs1)  -- POP DS1 000:1263
     ∷ sixCodes p 0x08 Or)  -- OR 000:1102-1107
     ++ (row 0x0e 1 (pushSegment inPs)  -- PUSH PS 001:1579
     ∷ row 0x0f 1 (λ n. do  -- two bytes: SecondByte
@@ -228,10 +228,10 @@ bytes00 p =
       lookUp (secondBytes p) b)
     ∷ sixCodes p 0x10 Addc)  -- ADDC 000:984-989
     ++ (row 0x16 1 (pushSegment inSs)  -- PUSH SS 001:1579
-    ∷ row 0x17 1 (popSegment inSs)  -- POP SS 001:1586
+    ∷ row 0x17 1 (popSegment inSs)  -- POP SS 000:1263
     ∷ sixCodes p 0x18 Subc)  -- SUBC 000:996-1001
     ++ (row 0x1e 1 (pushSegment inDs0)  -- PUSH DS0 001:1579
-    ∷ row 0x1f 1 (popSegment inDs0)  -- POP DS0 001:1586
+    ∷ row 0x1f 1 (popSegment inDs0)  -- POP DS0 000:1263
     ∷ sixCodes p 0x20 And)  -- AND 000:1096-1101
     ++ (row 0x27 1 (converts Adj4a)  -- ADJ4A 000:1067, 01:57
     ∷ sixCodes p 0x28 Sub)  -- SUB 000:990-995
@@ -247,9 +247,9 @@ bytes40 p =
     row 0x40 8 (λ reg. got (Calculates (calculates.One Inc true (Register reg))))  -- INC reg16 000:1016
     ∷ row 0x48 8 (λ reg. got (Calculates (calculates.One Dec true (Register reg))))  -- DEC reg16 000:1019
     ∷ row 0x50 8 (λ reg. got (Stacks (Push (Register reg))))  -- PUSH reg16 001:1578
-    ∷ row 0x58 8 (λ reg. got (Stacks (Pop (Register reg))))  -- POP reg16 001:1585
-    ∷ row 0x60 1 (λ n. got (Stacks PushR))  -- PUSH R 001:1581
-    ∷ row 0x61 1 (λ n. got (Stacks PopR))  -- POP R 001:1588
+    ∷ row 0x58 8 (λ reg. got (Stacks (Pop (Register reg))))  -- POP reg16 000:1262
+    ∷ row 0x60 1 (λ n. got (Stacks PushR))  -- PUSH R 000:1258
+    ∷ row 0x61 1 (λ n. got (Stacks PopR))  -- POP R 000:1265
     ∷ row 0x62 1 (λ n. withMemory p (λ reg a. Interrupts (Chkind reg a)))  -- CHKIND 001:1639
     ∷ row 0x68 1 (λ n. withWord (λ v. Stacks (PushWord v)))  -- PUSH imm16 001:1583
     ∷ row 0x69 1 (λ n. withPlace p (λ reg a. withWord (λ v. Multiplies (MulWord reg a v))))  -- MUL reg16,reg16'/mem16,imm16 000:1039-1040
@@ -264,17 +264,17 @@ abbrev pub bytes80 : Prefixes → List Row
 bytes80 p =
     row 0x80 4 (withImmediate p)  -- reg/mem,imm of ADD to CMP 000:981-982 and its like, 01:50
     ∷ row 0x84 2 (λ n. withPlace p (λ reg a. got (Calculates (calculates.Test (W n) a (Held (Register reg))))))  -- TEST 000:1091-1092
-    ∷ row 0x86 2 (λ n. withPlace p (λ reg a. got (Transfers (Xch (W n) reg a))))  -- XCH reg,reg'/mem 001:1252-1253
+    ∷ row 0x86 2 (λ n. withPlace p (λ reg a. got (Transfers (Xch (W n) reg a))))  -- XCH reg,reg'/mem 000:934-935
     ∷ row 0x88 2 (λ n. withPlace p (λ reg a. got (Transfers (Mov (W n) a (Held (Register reg))))))  -- MOV mem,reg 001:1236
     ∷ row 0x8a 2 (λ n. withPlace p (λ reg a. got (Transfers (Mov (W n) (Register reg) (Held a)))))  -- MOV reg,reg'/mem 001:1235, 1237
     ∷ row 0x8c 1 (λ n. fromSegment p)  -- MOV reg16/mem16,sreg 001:1244-1245
-    ∷ row 0x8d 1 (λ n. withMemory p (λ reg a. Transfers (Ldea reg a)))  -- LDEA 001:1250
+    ∷ row 0x8d 1 (λ n. withMemory p (λ reg a. Transfers (Ldea reg a)))  -- LDEA 000:932
     ∷ row 0x8e 1 (λ n. toSegment p)  -- MOV sreg,reg16/mem16 001:1242-1243
     ∷ row 0x8f 1 (λ n. withPlain p (λ to. Stacks (Pop to)))  -- POP mem16 000:1261
     ∷ row 0x90 1 (λ n. got (Controls Nop))  -- NOP 001:1658
-    ∷ row 0x91 7 (λ n. got (Transfers (Xch true (n + 1) (Register AW))))  -- XCH AW,reg16 001:1254
+    ∷ row 0x91 7 (λ n. got (Transfers (Xch true (n + 1) (Register AW))))  -- XCH AW,reg16 000:936
     ∷ row 0x98 1 (converts Cvtbw)  -- CVTBW 001:1381
-    ∷ row 0x99 1 (converts Cvtwl)  -- CVTWL 001:1382
+    ∷ row 0x99 1 (converts Cvtwl)  -- CVTWL 000:1074
     ∷ row 0x9a 1 (λ n. withFar (λ ps pc. Branches (CallFar ps pc)))  -- CALL far-proc 001:1567
     ∷ row 0x9c 1 (λ n. got (Stacks PushPsw))  -- PUSH PSW 000:1257
     ∷ row 0x9d 1 (λ n. got (Stacks PopPsw))  -- POP PSW 000:1264
@@ -313,7 +313,7 @@ bytesC0 p =
     ∷ row 0xcc 1 (λ n. got (Interrupts Brk3))  -- BRK 3 001:1634
     ∷ row 0xcd 1 (λ n. withByte (λ v. Interrupts (Brk v)))  -- BRK imm8 000:1314
     ∷ row 0xce 1 (λ n. got (Interrupts Brkv))  -- BRKV 001:1636
-    ∷ row 0xcf 1 (λ n. got (Interrupts Reti))  -- RETI 001:1637
+    ∷ row 0xcf 1 (λ n. got (Interrupts Reti))  -- RETI 000:1316
     ∷ row 0xd0 2 (shiftGroup p (got One))  -- shifts by 1 001:1494-1495 and their like
     ∷ row 0xd2 2 (shiftGroup p (got (Counted InCl)))  -- shifts by CL 001:1496-1497 and their like
     ∷ row 0xd4 1 (λ n. afterTen Cvtbd)  -- CVTBD 000:1071
@@ -321,16 +321,16 @@ bytesC0 p =
     ∷ row 0xd7 1 (λ n. got (Transfers (Trans (segOr (p .seg) inDs0))))  -- TRANS 001:1251
     ∷ row 0xe0 1 (λ n. withShort (λ disp. Tests (Dbnzne disp)))  -- DBNZNE 000:1303
     ∷ row 0xe1 1 (λ n. withShort (λ disp. Tests (Dbnze disp)))  -- DBNZE 000:1304
-    ∷ row 0xe2 1 (λ n. withShort (λ disp. Tests (Dbnz disp)))  -- DBNZ 001:1625
-    ∷ row 0xe3 1 (λ n. withShort (λ disp. Tests (Bcwz disp)))  -- BCWZ 001:1626
-    ∷ row 0xe4 2 (λ n. withByte (λ v. Ports (In (W n) (Numbered v))))  -- IN acc,imm8 001:1284
-    ∷ row 0xe6 2 (λ n. withByte (λ v. Ports (Out (W n) (Numbered v))))  -- OUT imm8,acc 001:1286
+    ∷ row 0xe2 1 (λ n. withShort (λ disp. Tests (Dbnz disp)))  -- DBNZ 000:1305
+    ∷ row 0xe3 1 (λ n. withShort (λ disp. Tests (Bcwz disp)))  -- BCWZ 000:1306
+    ∷ row 0xe4 2 (λ n. withByte (λ v. Ports (In (W n) (Numbered v))))  -- IN acc,imm8 000:966
+    ∷ row 0xe6 2 (λ n. withByte (λ v. Ports (Out (W n) (Numbered v))))  -- OUT imm8,acc 000:968
     ∷ row 0xe8 1 (λ n. withWord (λ disp. Branches (CallNear disp)))  -- CALL near-proc 001:1564
     ∷ row 0xe9 1 (λ n. withWord (λ disp. Branches (BrNear disp)))  -- BR near-label 001:1591
     ∷ row 0xea 1 (λ n. withFar (λ ps pc. Branches (BrFar ps pc)))  -- BR far-label 001:1595
     ∷ row 0xeb 1 (λ n. withShort (λ disp. Branches (BrShort disp)))  -- BR short-label 001:1592
-    ∷ row 0xec 2 (λ n. got (Ports (In (W n) InDw)))  -- IN acc,DW 001:1285
-    ∷ row 0xee 2 (λ n. got (Ports (Out (W n) InDw)))  -- OUT DW,acc 001:1287
+    ∷ row 0xec 2 (λ n. got (Ports (In (W n) InDw)))  -- IN acc,DW 000:967
+    ∷ row 0xee 2 (λ n. got (Ports (Out (W n) InDw)))  -- OUT DW,acc 000:969
     ∷ row 0xf4 1 (λ n. got (Controls Halt))  -- HALT 001:1649
     ∷ row 0xf5 1 (λ n. got (Controls NotCy))  -- NOT1 CY 001:1462
     ∷ row 0xf6 2 (groupF6 p)  -- TEST, NOT, NEG, MULU, MUL, DIVU, DIV: groupF6

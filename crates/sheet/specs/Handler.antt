@@ -1,5 +1,5 @@
 -- The one handler of acts: what they do to a world, what happened on the way, and what is counted over that.
--- 01:16-17, 42-43, 54, 66, 70
+-- 01:16-17, 42-43, 54, 66, 70; 02 b
 use Prim.Native.Nat.{ℕ, zero, suc, _+_, _*_}
 use mathlib.Core.Bool.{Bool, true, false}
 use mathlib.Core.List.{List, [], _∷_}

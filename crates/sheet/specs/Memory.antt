@@ -1,5 +1,5 @@
 -- The address space: RAM from address 0, ROM up to FFFFFh, FFh elsewhere; writes outside RAM are dropped.
--- 01:16-17, 66
+-- 01:16-17, 66; 02 b
 use Prim.Native.Nat.{ℕ, _+_, _-_, _*_, _/_, _%_}
 use mathlib.Core.Bool.{Bool, true, false}
 use mathlib.Core.List.{List}

@@ -1,5 +1,5 @@
 -- IN and OUT.
--- 001:1284-1291; 000:966-971; 01:70
+-- 001:1284-1289; 000:966-969; 01:70
 use Prim.Native.Nat.{ℕ}
 use Rattle.sheet.specs.declared.Port.{Port}
 use Rattle.sheet.specs.declared.Port.the-variants.{InDw, Numbered}

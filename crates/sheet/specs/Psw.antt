@@ -1,5 +1,5 @@
 -- PSW as flags and as 16 bits, and what an instruction does to it: a column of Table 8-4.
--- 001:519-550; 01:14, 54
+-- 001:519-550, 1146-1154; 01:14, 54
 use mathlib.Core.Bool.{Bool, false}
 use Prim.Native.Nat.{ℕ, _+_, _*_, _/_}
 use lib.Dec.{eqb}

@@ -1,5 +1,5 @@
 -- The register file by number: the eight general registers as Table 8-6 numbers them, the segment registers as Table 8-7 does, PC.
--- 001:439-497; 01:13
+-- 001:439-497, 1168-1191; 01:13
 use Prim.Native.Nat.{ℕ, _+_, _*_, _/_, _%_}
 use mathlib.Core.Bool.{Bool, true, false}
 use mathlib.Core.List.{List}

@@ -58,13 +58,13 @@ fieldGiven k = do
 
 abbrev pub secondBytes : Prefixes → List Row
 secondBytes p =
-    row 0x10 2 (bitInCl p Test1)  -- TEST1 ..,CL 001:1440-1443
-    ∷ row 0x12 2 (bitInCl p Clr1)  -- CLR1 ..,CL 001:1467-1470
-    ∷ row 0x14 2 (bitInCl p Set1)  -- SET1 ..,CL 001:1475-1478
+    row 0x10 2 (bitInCl p Test1)  -- TEST1 ..,CL 001:1440-1443, 002:2723-2726
+    ∷ row 0x12 2 (bitInCl p Clr1)  -- CLR1 ..,CL 000:1120-1123
+    ∷ row 0x14 2 (bitInCl p Set1)  -- SET1 ..,CL 000:1128-1131
     ∷ row 0x16 2 (bitInCl p Not1)  -- NOT1 ..,CL 001:1448-1451
     ∷ row 0x18 2 (bitGiven p Test1)  -- TEST1 ..,imm 001:1444-1447
-    ∷ row 0x1a 2 (bitGiven p Clr1)  -- CLR1 ..,imm 001:1471-1474
-    ∷ row 0x1c 2 (bitGiven p Set1)  -- SET1 ..,imm 001:1479-1482
+    ∷ row 0x1a 2 (bitGiven p Clr1)  -- CLR1 ..,imm 000:1124-1127
+    ∷ row 0x1c 2 (bitGiven p Set1)  -- SET1 ..,imm 000:1132-1135
     ∷ row 0x1e 2 (bitGiven p Not1)  -- NOT1 ..,imm 001:1452-1455
     ∷ row 0x20 1 (λ n. got (Decimals (Add4s (segOr (p .seg) inDs0))))  -- ADD4S 000:1007
     ∷ row 0x22 1 (λ n. got (Decimals (Sub4s (segOr (p .seg) inDs0))))  -- SUB4S 000:1008

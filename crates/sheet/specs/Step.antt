@@ -1,5 +1,5 @@
 -- One step, an interrupt call, and reset; what a step and an interrupt report.
--- 01:15, 23-29, 35-48
+-- 01:15, 23-29, 35-48; 02 f
 use Prim.Native.Nat.{ℕ, _+_}
 use mathlib.Core.Bool.{Bool, true, false, not, _&&_}
 use mathlib.Core.List.{List, []}
@@ -37,7 +37,7 @@ fits w = leb (length (w .ram) + length (w .rom)) 1048576
 abbrev pub placesGood : State → List ℕ → List ℕ → Bool
 placesGood s tape log = leb (s .progress .tape) (length tape) && (leb (s .progress .log) (length log) && leb (s .progress .count) (rule .ceiling))
 
--- a machine halts after no segment load
+-- never both: HALT is then itself the last finished step
 abbrev pub marksGood : Marks → Bool
 marksGood m = not (m .halted && m .loaded)
 

@@ -1,5 +1,5 @@
 -- MOV, LDEA, TRANS, XCH.
--- 001:1235-1254; 000:917-936; 01:14, 19
+-- 001:1235-1254; 000:917-936; 01:14, 18
 use Prim.Native.Nat.{ℕ}
 use mathlib.Core.Bool.{Bool, true, false}
 use Rattle.sheet.specs.declared.Address.{Address}

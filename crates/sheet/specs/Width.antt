@@ -1,5 +1,5 @@
 -- The two widths of an operand: the sheet's bit W, true for a word and false for a byte. Each rule is one definition over it.
--- 001:1202-1206, the bit W; 01:16
+-- 001:1086, the bit W; 01:16
 use mathlib.Core.Bool.{Bool, true, false, not}
 use Prim.Native.Nat.{ℕ, _+_, _-_, _*_, _%_}
 use lib.Dec.{eqb, leb, ltb}

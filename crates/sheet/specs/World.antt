@@ -1,5 +1,5 @@
 -- The machine with what it is lent, and the setters of its parts.
--- 01:13, 17
+-- 01:13, 17; 02 f
 use Prim.Native.Nat.{ℕ, _+_}
 use mathlib.Core.Bool.{Bool}
 use mathlib.Core.List.{List}

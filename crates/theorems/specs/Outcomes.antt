@@ -1,4 +1,4 @@
--- Document 01's table of refusals, row by row: what a step, an interrupt call and a reading of a log come to, each with its condition.
+-- Document 01's table of refusals, with 02 f's 13 and its case of 2, row by row: what a step, an interrupt call and a reading of a log come to, each with its condition.
 use Prim.Native.Nat.{ℕ, _+_, _≤_, _<_}
 use mathlib.Core.Path.{_≡_}
 use mathlib.Core.Bool.{Bool, true, false, not, _&&_}
