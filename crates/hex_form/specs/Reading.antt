@@ -88,6 +88,12 @@ unfoldable pub applied : (base : ℕ) → List Store → List ℕ → List ℕ
 applied base [] image = image
 applied base (x ∷ l) image = applied base l (stored base x image)
 
+-- what is said of passing a line
+pub record Passes (segment : ℕ) (s : List ℕ) (kind′ span′ segment′ : ℕ) : Type 0 where
+  pub kinds : kind′ ≡ kind s
+  pub spans : span′ ≡ span s
+  pub segments : segment′ ≡ segmentAfter segment s
+
 -- what is said of reading a text into an image: on a refusal the image is as it was
 pub record Reads (text : List ℕ) (base : ℕ) (image : List ℕ) (number line : ℕ) (image′ : List ℕ) : Type 0 where
   pub says : verdictOf base (length image) text ≡ verdict number line

@@ -58,3 +58,6 @@ ending-bound s i e = rw e (ending-small s i)
 
 pub sum-bound : (f : ℕ → ℕ) (k : ℕ) {r : ℕ} → r ≡ sum f k → r < 256
 sum-bound f k e = rw e (sum-small f k)
+
+pub offset-bound : (s : List ℕ) {r : ℕ} → r ≡ offset s → r ≤ 65535
+offset-bound s e = rw e (offset-small s)

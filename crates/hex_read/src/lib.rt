@@ -1,88 +1,15 @@
 // Intel HEX read into a lent image: all lines are checked first, then their bytes are stored.
+use hex_fault::fault_of;
+use hex_fault::is_inside;
+use hex_fault::pass;
+use hex_fault::place_of;
 use hex_line::byte_at;
-use hex_line::is_formed;
-use hex_line::is_summed;
 use hex_line::kind_of;
-use hex_line::offset_of;
 use hex_line::size_of;
-use hex_line::span_of;
 ghost use mathlib.Core.Path.{_≡_};
 ghost use Prim.Native.Nat.{_≤_};
 ghost use lib.ListN.{length};
-ghost use Rattle.hex_form.specs.Line.{all};
-ghost use Rattle.hex_form.specs.Reading.{place, inside, landsIn, lands, fault, segmentAfter, verdict, verdictOf, store, stored, applied, firstStores, storeAt, lineStores, storesOf, Reads};
-
-// Where byte i of a line goes.
-fn place_of(g: usize, s: &[u8], i: usize) -> usize
-    requires { ⌜ (g ≤ 69904) × (i ≤ 272) ⌝ }
-    ensures { λ r. ⌜ r ≡ place g (now (s .entry)) i ⌝ }
-{
-    16 * g + (offset_of(s) + i) % 65536
-}
-
-fn is_inside(base: u32, n: usize, a: usize) -> bool
-    ensures { λ r. ⌜ r ≡ inside base n a ⌝ }
-{
-    let first = base as usize;
-    if a < first {
-        return false;
-    }
-    if 1048576 <= a {
-        return false;
-    }
-    a - first < n
-}
-
-// Whether the first k bytes of a line land in the image.
-fn lands_to(base: u32, n: usize, g: usize, s: &[u8], k: usize) -> bool
-    requires { ⌜ (g ≤ 69904) × (k ≤ 272) ⌝ }
-    ensures { λ r. ⌜ r ≡ all (landsIn base n g (now (s .entry))) k ⌝ }
-{
-    if k == 0 {
-        return true;
-    }
-    let before = lands_to(base, n, g, s, k - 1);
-    let a = place_of(g, s, k - 1);
-    before & is_inside(base, n, a)
-}
-
-fn does_land(base: u32, n: usize, g: usize, s: &[u8]) -> bool
-    requires { ⌜ g ≤ 69904 ⌝ }
-    ensures { λ r. ⌜ r ≡ lands base n g (now (s .entry)) ⌝ }
-{
-    if kind_of(s) == 0 {
-        let k = size_of(s);
-        return lands_to(base, n, g, s, k);
-    }
-    true
-}
-
-// What is wrong with a line, or 0.
-fn fault_of(base: u32, n: usize, g: usize, s: &[u8]) -> u8
-    requires { ⌜ g ≤ 69904 ⌝ }
-    ensures { λ r. ⌜ r ≡ fault base n g (now (s .entry)) ⌝ }
-{
-    if !is_formed(s) {
-        return 10;
-    }
-    if !is_summed(s) {
-        return 11;
-    }
-    if !does_land(base, n, g, s) {
-        return 12;
-    }
-    0
-}
-
-fn segment_after(g: usize, s: &[u8]) -> usize
-    ensures { λ r. ⌜ r ≡ segmentAfter g (now (s .entry)) ⌝ }
-{
-    if kind_of(s) == 2 {
-        let high = byte_at(s, 4);
-        return 256 * high + byte_at(s, 5);
-    }
-    g
-}
+ghost use Rattle.hex_form.specs.Reading.{verdict, numberOf, verdictOf, store, stored, applied, firstStores, storeAt, lineStores, storesOf, Reads};
 
 // 0, or the number and the line of a refusal.
 pub struct Checked {
@@ -97,21 +24,81 @@ pub fn check(text: &[u8], base: u32, n: usize) -> Checked
     let mut segment = 0;
     let mut line = 1;
     while at < text.len() {
-        let s = &text[at..];
-        let number = fault_of(base, n, segment, s);
+        let number = fault_of(base, n, segment, &text[at..]);
         if number != 0 {
             return Checked { number, line };
         }
+        let p = pass(segment, &text[at..]);
+        at = at + p.span;
         line = line + 1;
-        let kind = kind_of(s);
-        at = at + span_of(s);
-        if kind == 1 {
+        if p.kind == 1 {
             if at == text.len() {
                 return Checked { number: 0, line: 0 };
             }
             return Checked { number: 10, line };
         }
-        segment = segment_after(segment, s);
+        segment = p.segment;
     }
     Checked { number: 10, line }
+}
+
+fn store_byte(image: &mut [u8], base: u32, a: usize, v: u8)
+    ensures { λ _. ⌜ now (image .exit) ≡ stored base (store a v) (now (image .entry)) ⌝ }
+{
+    if is_inside(base, image.len(), a) {
+        image[a - base as usize] = v;
+    }
+}
+
+// Stores the first k bytes of a line.
+fn store_to(image: &mut [u8], base: u32, g: usize, s: &[u8], k: usize)
+    requires { ⌜ (g ≤ 65535) × (k ≤ 255) ⌝ }
+    ensures { λ _. ⌜ now (image .exit) ≡ applied base (firstStores (storeAt g (now (s .entry))) k) (now (image .entry)) ⌝ }
+{
+    if k == 0 {
+        return;
+    }
+    store_to(image, base, g, s, k - 1);
+    let a = place_of(g, s, k - 1);
+    let v = byte_at(s, k + 3);
+    store_byte(image, base, a, v as u8);
+}
+
+fn store_line(image: &mut [u8], base: u32, g: usize, s: &[u8])
+    requires { ⌜ g ≤ 65535 ⌝ }
+    ensures { λ _. ⌜ now (image .exit) ≡ applied base (lineStores g (now (s .entry))) (now (image .entry)) ⌝ }
+{
+    if kind_of(s) == 0 {
+        let k = size_of(s);
+        store_to(image, base, g, s, k);
+    }
+}
+
+// Stores the bytes of a text that is known to be good.
+fn store_lines(image: &mut [u8], base: u32, text: &[u8])
+    requires { ⌜ numberOf (verdictOf base (length (now image)) (now text)) ≡ 0 ⌝ }
+    ensures { λ _. ⌜ now (image .exit) ≡ applied base (storesOf (now (text .entry))) (now (image .entry)) ⌝ }
+{
+    let mut at = 0;
+    let mut segment = 0;
+    while at < text.len() {
+        let p = pass(segment, &text[at..]);
+        if p.kind == 1 {
+            return;
+        }
+        store_line(image, base, segment, &text[at..]);
+        at = at + p.span;
+        segment = p.segment;
+    }
+}
+
+// Nothing is stored until every line is known to be good.
+pub fn read(text: &[u8], image: &mut [u8], base: u32) -> Checked
+    ensures { λ r. ⌜ Reads (now (text .entry)) base (now (image .entry)) (r .number) (r .line) (now (image .exit)) ⌝ }
+{
+    let r = check(text, base, image.len());
+    if r.number == 0 {
+        store_lines(image, base, text);
+    }
+    r
 }

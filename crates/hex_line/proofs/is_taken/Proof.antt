@@ -2,22 +2,16 @@ use borrow.Author.Needs.{needs}
 use Rattle.hex_line.proofs.Laws.{data-taken, offset-given, end-taken, segment-taken}
 use Rattle.hex_line.proofs.is_taken.Statement.{statement}
 use Rattle.hex_line.proofs.is_taken.Tie as tie
-use Rattle.hex_line.proofs.is_taken.Reads as reads
-use Rattle.hex_line.proofs.is_taken.Lts as lts
 
--- src/lib.rt:126:9
 returns : tie.Need-returns
 returns c = search (data-taken, needs)
 
--- src/lib.rt:129:9
 returns-2 : tie.Need-returns-2
 returns-2 c = search (offset-given, needs)
 
--- src/lib.rt:132:9
 returns-3 : tie.Need-returns-3
 returns-3 c = search (end-taken, needs)
 
--- src/lib.rt:122:1
 returns-4 : tie.Need-returns-4
 returns-4 c = search (segment-taken, needs)
 
