@@ -1,2 +1,5 @@
 pub mod Walk
 pub mod Stores
+pub mod Texts
+pub mod LineBack
+pub mod RoundTrip
