@@ -14,7 +14,7 @@ use Rattle.sheet.specs.Width.{pick}
 use Rattle.laws.proofs.Bytes.{Bytes, bytes-drop}
 use Rattle.hex_form.specs.Line.{all, byte, size, offset, kind, span, taken, written, formed, summed}
 use Rattle.hex_form.specs.Reading.{place, inside, landsIn, lands, fault, segmentAfter, Verdict, verdict, verdictFrom, verdictOf, Store, store, storeAt, firstStores, lineStores, storesFrom, storesOf, stored, applied, Reads}
-use Rattle.hex_form.specs.Writing.{lineText, lineBytes, dataText, segmentText, endText, segmentFor, turnText, textFrom, hexText}
+use Rattle.hex_form.specs.Writing.{lineText, lineBytes, dataText, segmentText, endText, segmentFor, turnText, chunkText, textFrom, hexText}
 use Rattle.hex_form.proofs.Walk.{span-some, span-there, end-line, end-stores, line-and-rest, line-and-stores}
 use Rattle.hex_form.proofs.Stores.{applied-append, same-length}
 use Rattle.hex_form.proofs.Texts.{record-long, segment-low, segment-fits, segment-kept, segment-new, no-turn, turn, text-ends}
@@ -170,7 +170,7 @@ module _ (base n : ℕ) where
 
   trip : (k g a : ℕ) (rest p q : List ℕ) → Bytes rest → length q ≡ length rest → n ≡ length p + length rest → base + n ≤ 1048576
       → (0 < length rest → a ≡ base + length p) → 16 * g ≤ a → length rest ≤ k → Trip base n g (textFrom k g a rest) (p ++ q) (p ++ rest)
-  unfolding textFrom
+  unfolding textFrom chunkText
   trip zero g a [] p q bytes same long top there low few = rw (none-left q same) (end-trip g (p ++ []))
   trip zero g a (c ∷ r) p q bytes same long top there low few = absurd (not-suc-le-zero few)
   trip (suc k) g a [] p q bytes same long top there low few = rw (none-left q same) (end-trip g (p ++ []))
@@ -187,8 +187,9 @@ module _ (base n : ℕ) where
       let later : Trip base n h (textFrom k h (a + 16) (drop 16 rest)) ((p ++ x) ++ drop (length x) q) ((p ++ x) ++ drop 16 rest) =
       trip k h (a + 16) (drop 16 rest) (p ++ x) (drop (length x) q) (bytes-drop 16 rest bytes) (length-drop (length x) q ∙ omega arith) (omega arith) top (λ z. omega arith) (omega arith) (omega arith) in
       let e : (p ++ x) ++ drop 16 rest ≡ p ++ rest = append-assoc p x (drop 16 rest) ∙ ap (λ (w : List ℕ). p ++ w) (take-append-drop 16 rest) in
-      turn-trip g a (dataText (a - 16 * h) x ++ textFrom k h (a + 16) (drop 16 rest)) (p ++ q) (p ++ rest) (omega arith)
-      (data-trip h (a - 16 * h) x (textFrom k h (a + 16) (drop 16 rest)) p q (bytes-take 16 rest bytes) (omega arith) (omega arith) (omega arith) (omega arith) (omega arith) top (rw e at later))
+      rw (append-assoc (turnText g a) (dataText (a - 16 * h) x) (textFrom k h (a + 16) (drop 16 rest)))
+      (turn-trip g a (dataText (a - 16 * h) x ++ textFrom k h (a + 16) (drop 16 rest)) (p ++ q) (p ++ rest) (omega arith)
+      (data-trip h (a - 16 * h) x (textFrom k h (a + 16) (drop 16 rest)) p q (bytes-take 16 rest bytes) (omega arith) (omega arith) (omega arith) (omega arith) (omega arith) top (rw e at later)))
 
 -- ---- the round trip
 

@@ -12,7 +12,7 @@ use borrow.Author.Tests.{le-leb, lt-leb, leb-true, leb-false}
 use Rattle.sheet.specs.Width.{pick}
 use Rattle.text.specs.Text.{hex}
 use Rattle.text.proofs.Texts.{hex-length}
-use Rattle.hex_form.specs.Writing.{pairs, checksum, lineText, lineBytes, dataText, segmentText, endText, segmentFor, turnText, textFrom, hexText}
+use Rattle.hex_form.specs.Writing.{pairs, checksum, lineText, lineBytes, dataText, segmentText, endText, segmentFor, turnText, chunkText, textFrom, hexText}
 
 pub pairs-long : (l : List ℕ) → length (pairs l) ≡ 2 * length l
 unfolding pairs
@@ -74,9 +74,23 @@ text-ends zero g a = refl
 text-ends (suc k) g a = refl
 
 pub text-more : (k g a : ℕ) (l : List ℕ) → 0 < length l → length l ≤ k
-    → textFrom k g a l ≡ turnText g a ++ (dataText (a - 16 * segmentFor g a) (take 16 l) ++ textFrom (k - 1) (segmentFor g a) (a + 16) (drop 16 l))
+    → textFrom k g a l ≡ chunkText g a (take 16 l) ++ textFrom (k - 1) (segmentFor g a) (a + 16) (drop 16 l)
 unfolding textFrom
 text-more zero g a [] h e = absurd (not-suc-le-zero h)
 text-more zero g a (b ∷ l) h e = absurd (not-suc-le-zero e)
 text-more (suc k) g a [] h e = absurd (not-suc-le-zero h)
 text-more (suc k) g a (b ∷ l) h e = rw (sub-one (suc k))
+
+-- ---- how long they are
+
+pub turn-long : (g a : ℕ) → length (turnText g a) ≡ pick (leb (a + 16) (16 * g + 65536)) 0 16
+unfolding turnText segmentText
+turn-long g a = go (leb (a + 16) (16 * g + 65536))
+  where
+    go : (t : Bool) → length (pick t [] (segmentText (a / 16))) ≡ pick t 0 16
+    go true = refl
+    go false = record-long 2 0 (a / 16 / 256 ∷ (a / 16 % 256 ∷ []))
+
+pub chunk-long : (g a : ℕ) (x : List ℕ) → length (chunkText g a x) ≡ length (turnText g a) + (2 * length x + 12)
+unfolding chunkText dataText
+chunk-long g a x = length-append (turnText g a) (dataText (a - 16 * segmentFor g a) x) ∙ ap (λ (j : ℕ). length (turnText g a) + j) (record-long 0 (a - 16 * segmentFor g a) x)

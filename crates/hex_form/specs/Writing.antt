@@ -50,14 +50,25 @@ segmentFor g a = pick (leb (a + 16) (16 * g + 65536)) g (a / 16)
 unfoldable pub turnText : (segment address : ℕ) → List ℕ
 turnText g a = pick (leb (a + 16) (16 * g + 65536)) [] (segmentText (a / 16))
 
+-- a line of data, with the line of its segment
+unfoldable pub chunkText : (segment address : ℕ) → List ℕ → List ℕ
+chunkText g a x = turnText g a ++ dataText (a - 16 * segmentFor g a) x
+
 -- at most k lines of data
 unfoldable pub textFrom : (k segment address : ℕ) → List ℕ → List ℕ
 textFrom zero g a rest = endText
 textFrom (suc k) g a [] = endText
-textFrom (suc k) g a (b ∷ rest) = turnText g a ++ (dataText (a - 16 * segmentFor g a) (take 16 (b ∷ rest)) ++ textFrom k (segmentFor g a) (a + 16) (drop 16 (b ∷ rest)))
+textFrom (suc k) g a (b ∷ rest) = chunkText g a (take 16 (b ∷ rest)) ++ textFrom k (segmentFor g a) (a + 16) (drop 16 (b ∷ rest))
 
 unfoldable pub hexText : (base : ℕ) → List ℕ → List ℕ
 hexText base image = textFrom (length image) 0 base image
+
+-- where the bytes of a line end that begins at i: 16 bytes on, or at the image's end
+pub record Ends (i n r : ℕ) : Type 0 where
+  pub low : i ≤ r
+  pub high : r ≤ n
+  pub few : r ≤ i + 16
+  pub full : r < n → r ≡ i + 16
 
 -- what is said of writing: the text stands at the start of out, or out is as it was; 12 for an image that reaches past FFFFFh, then 6 for too little room
 pub record WritesHex (image : List ℕ) (base : ℕ) (out : List ℕ) (number len : ℕ) (out′ : List ℕ) : Type 0 where
