@@ -27,6 +27,9 @@ module _ (g a : ℕ) where
   pub turned : {out out′ : List ℕ} {r : ℕ} → 16 * g + 65536 < a + 16 → Writes (segmentText (a / 16)) out r out′ → Writes (turnText g a) out r out′
   turned h w = rw (turn g a h) w
 
+  pub segment-under : 16 * g ≤ a → {h : ℕ} → h ≡ segmentFor g a → 16 * h ≤ a
+  segment-under low e = rw e (segment-low g a low)
+
   -- the room for a chunk is room for its first line
   pub chunk-front : (x out : List ℕ) → length (chunkText g a x) ≤ length out → length (turnText g a) ≤ length out
   chunk-front x out h = omega (arith, chunk-long g a x)
@@ -36,9 +39,6 @@ module _ (g a : ℕ) where
     turn-within = omega (arith, w .within, same w)
 
     module _ (low : 16 * g ≤ a) {h : ℕ} (e : h ≡ segmentFor g a) where
-      pub under : 16 * h ≤ a
-      under = rw e (segment-low g a low)
-
       pub offset-small : a - 16 * h ≤ 65535
       offset-small = rw e (omega (arith, segment-fits g a low))
 

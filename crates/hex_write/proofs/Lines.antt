@@ -41,6 +41,9 @@ part l {i} {r} e = go (ltb r (length l)) refl
         let d = length-drop i l in
         take-all (r - i) (drop i l) (omega (arith, e .high)) ∙ sym (take-all 16 (drop i l) (omega (arith, e .few)))
 
+pub part-few : (l : List ℕ) {i n r : ℕ} → Ends i n r → length (take (r - i) (drop i l)) ≤ 16
+part-few l {i} {n} {r} e = rw (length-take (r - i) (drop i l)) (omega (arith, e .few))
+
 -- what both loops know: which text is left
 pub record Left (base : ℕ) (image : List ℕ) (g i : ℕ) : Type 0 where
   pub fuel : ℕ
@@ -52,7 +55,7 @@ pub record Left (base : ℕ) (image : List ℕ) (g i : ℕ) : Type 0 where
 abbrev pub left : {base : ℕ} {image : List ℕ} {g i : ℕ} → Left base image g i → List ℕ
 left {base} {image} {g} {i} x = textFrom (x .fuel) g (base + i) (drop i image)
 
-start : (base : ℕ) (image : List ℕ) → Left base image 0 0
+abbrev start : (base : ℕ) (image : List ℕ) → Left base image 0 0
 start base image = record { fuel = length image; enough = omega arith; low = zero-le; small = zero-le; near = zero-le }
 
 module _ {base : ℕ} {image : List ℕ} {g i : ℕ} (x : Left base image g i) where
@@ -60,7 +63,7 @@ module _ {base : ℕ} {image : List ℕ} {g i : ℕ} (x : Left base image g i) w
   ended h = rw (drop-of-length-le image h) (text-ends (x .fuel) g (base + i))
 
   module _ (h : i < length image) (top : base + length image ≤ 1048576) where
-    next : Left base image (segmentFor g (base + i)) (i + 16)
+    abbrev next : Left base image (segmentFor g (base + i)) (i + 16)
     next =
         record {
           fuel = x .fuel - 1;
@@ -137,11 +140,24 @@ module _ {base : ℕ} {image out₀ out : List ℕ} {at g i : ℕ} (p : Putting 
       pub end-fits : at + q ≤ length out₀
       end-fits = more (p .wrote) (lineText (lineBytes 1 0 [])) z q w .within
 
+      pub end-same : length (putMid at (length out - at) out z) ≡ length out₀
+      end-same = same (more (p .wrote) (lineText (lineBytes 1 0 [])) z q w)
+
       pub end-put : Writes (hexText base image) out₀ (at + q) (putMid at (length out - at) out z)
       unfolding endText
       end-put = rw whole (more (p .wrote) (lineText (lineBytes 1 0 [])) z q w)
 
 -- ---- the loop that measures
+
+turn-short : (g a : ℕ) → length (turnText g a) ≤ 16
+turn-short g a = rw (turn-long g a) (go (leb (a + 16) (16 * g + 65536)))
+  where
+    go : (t : Bool) → pick t 0 16 ≤ 16
+    go true = lit≤ tt
+    go false = lit≤ tt
+
+pub chunk-bound : (g a m : ℕ) {q : ℕ} → q ≡ length (turnText g a) + (2 * m + 12) → q ≤ 2 * m + 28
+chunk-bound g a m e = omega (arith, turn-short g a)
 
 pub record Measuring (base : ℕ) (image : List ℕ) (len g i : ℕ) : Type 0 where
   pub rest : Left base image g i
@@ -162,15 +178,8 @@ module _ {base : ℕ} {image : List ℕ} {len g i : ℕ} (p : Measuring base ima
       let m : length (take 16 (drop i image)) ≡ r - i = ap length (sym (part image e)) ∙ length-take-le (r - i) (drop i image) (omega (arith, length-drop i image, e .high, e .low)) in
       let n = chunk-long g (base + i) (take 16 (drop i image)) in
       let o = ap length (one-more (p .rest) h top) ∙ length-append c (left (next (p .rest) h top)) in
-      let t : length (turnText g (base + i)) ≤ 16 = turn-short (base + i) in
+      let t : length (turnText g (base + i)) ≤ 16 = turn-short g (base + i) in
       rw s (record { rest = next (p .rest) h top; few = omega (arith, p .few, e .few); all = omega (arith, p .all) })
-    where
-      turn-short : (a : ℕ) → length (turnText g a) ≤ 16
-      turn-short a = rw (turn-long g a) (go (leb (a + 16) (16 * g + 65536)))
-        where
-          go : (t : Bool) → pick t 0 16 ≤ 16
-          go true = lit≤ tt
-          go false = lit≤ tt
 
   pub measured : length image ≤ i → len ≡ length (hexText base image)
   unfolding endText
