@@ -66,7 +66,9 @@ fn refuse(number: u8, line: usize) {
     say(b": line ");
     print_decimal(STDERR_FILENO, line as u64);
     if number == 10 {
-        say(b": is no line of Intel HEX that is taken here, or the end line is missing, or text follows it\n");
+        say(
+            b": is no line of Intel HEX that is taken here, or the end line is missing, or text follows it\n",
+        );
     } else if number == 11 {
         say(b": its checksum is wrong\n");
     } else {

@@ -9,10 +9,6 @@ use native.Mathlib.Omega.{arith}
 use Rattle.hex_put.proofs.Laws.{no-pairs, more-pairs}
 use Rattle.hex_put.proofs.put_pairs.Statement.{statement}
 use Rattle.hex_put.proofs.put_pairs.Tie as tie
-use Rattle.hex_put.proofs.put_pairs.Reads as reads
-use Rattle.hex_put.proofs.put_pairs.Lts as lts
-use Rattle.hex_put.proofs.wide.Reads as wide-reads
-use Rattle.line.proofs.put_hex.Reads as put-hex-reads
 
 abbrev Inv-loop : tie.InvT-loop
 Inv-loop line₀ at bytes end₀ i₀ line end i = (i ≤ length bytes) × Adds (pairs (take i bytes)) line₀ at end line
@@ -20,35 +16,21 @@ Inv-loop line₀ at bytes end₀ i₀ line end i = (i ≤ length bytes) × Adds 
 abbrev μ-loop : tie.MeasureT-loop
 μ-loop line₀ at bytes end₀ i₀ line end i = length bytes - i
 
--- src/lib.rt:19:5
 loop-holds : tie.Need-loop-holds Inv-loop μ-loop
 loop-holds c = (omega arith, no-pairs (now (c .before .args .bytes)) _ _)
 
--- src/lib.rt:20:39
 shared-slice-read-wide : tie.Need-shared-slice-read-wide Inv-loop μ-loop
 shared-slice-read-wide c = omega arith
 
--- src/lib.rt:20:34
-wide-requires : tie.Need-wide-requires Inv-loop μ-loop
-wide-requires c κs = search needs
-
--- src/lib.rt:20:9
-put-hex-requires : tie.Need-put-hex-requires Inv-loop μ-loop
-put-hex-requires c κs = search needs
-
--- src/lib.rt:21:13
 add-i : tie.Need-add-i Inv-loop μ-loop
 add-i c = omega arith
 
--- src/lib.rt:19:5
 loop-less : tie.Need-loop-less Inv-loop μ-loop
 loop-less c = omega arith
 
--- src/lib.rt:19:5
 loop-again : tie.Need-loop-again Inv-loop μ-loop
 loop-again c = (omega arith, search (more-pairs, needs))
 
--- src/lib.rt:14:1
 returns : tie.Need-returns Inv-loop μ-loop
 returns c = rw (take-all (c .before .loop .i) (now (c .before .before .before .args .bytes)) (omega arith)) at (c .before .loop .inv .1)
 
@@ -60,8 +42,8 @@ put-pairs-spec =
     μ-loop
     loop-holds
     shared-slice-read-wide
-    wide-requires
-    put-hex-requires
+    (λ c κs. search needs)
+    (λ c κs. search needs)
     add-i
     loop-less
     loop-again
