@@ -3,3 +3,4 @@ pub mod Stores
 pub mod Texts
 pub mod LineBack
 pub mod RoundTrip
+pub mod Meaning
