@@ -4,3 +4,4 @@ pub mod Texts
 pub mod LineBack
 pub mod RoundTrip
 pub mod Meaning
+pub mod Order

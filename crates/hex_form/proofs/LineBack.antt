@@ -63,7 +63,7 @@ module _ (m w : List ℕ) where
 
 -- ---- sums
 
-sum-alike : (f g : ℕ → ℕ) (k : ℕ) → ((i : ℕ) → i < k → f i ≡ g i) → sum f k ≡ sum g k
+pub sum-alike : (f g : ℕ → ℕ) (k : ℕ) → ((i : ℕ) → i < k → f i ≡ g i) → sum f k ≡ sum g k
 unfolding sum
 sum-alike f g zero e = refl
 sum-alike f g (suc k) e = rw (sum-alike f g k (λ i h. e i (omega arith)), e k (omega arith))
