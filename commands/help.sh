@@ -25,6 +25,10 @@ v30 rom ROM            lists the instructions of a ROM image of at most 32768 by
     --notes FILE       names and comments for it; reading/README.md says how they are written
     --seen FILE        what run wrote with --seen: marks the instructions that never ran
 v30 image LINES        makes the image that the lines of such a listing name
+v30 hex ROM -o FILE    writes a ROM image as Intel HEX
+v30 unhex FILE -o ROM  reads Intel HEX into an image: --size N  of N bytes, FF at first;  --into IMAGE  of IMAGE's bytes at first
+    --base ADDRESS     of the image's first byte, as 65536 or 0x10000; without it the image ends at FFFFFh
+    --half even        only the even bytes, for one of a board's two chips;  --half odd  the odd ones
 v30 pack FOLDER        makes a folder with all that v30 needs, for a machine without the kit
 v30 help               this
 
