@@ -18,6 +18,7 @@ v30 trace ROM [..]     the same with a line for each step: address, instruction,
     --seen FILE        writes there which instructions ran: a line ADDRESS COUNT for each
   trace:
     --from N           the first step that is printed;  --count N  how many are
+    --drops            of them only those that dropped a byte: they wrote it where there is no RAM
 v30 log FILE           lists a port log
 v30 rom ROM            lists the instructions of a ROM image of at most 32768 bytes
     --read             to be read: routines, labels, loops, and a plain sentence beside each instruction

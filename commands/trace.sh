@@ -1,5 +1,5 @@
-# v30 trace ROM ..: runs a ROM as `v30 run` does, and prints a line for each step
-take_session '--from --count' "$@"
+# v30 trace ROM ..: runs a ROM as `v30 run` does, and prints a line for each step, or with --drops for each that drops a byte
+take_session '--from --count' '--drops' "$@"
 number_within --from 99999999999
 number_within --count 99999999999
 from=${given[--from]:-1}

@@ -1,9 +1,9 @@
 # The words of `v30 run` and `v30 trace`, and the console that plays them.
 
-# take_session OPTIONS WORD..: the words of a session and these options more; $rom and all other $inputs can be read
+# take_session OPTIONS FLAGS WORD..: the words of a session and these options and flags more; $rom and all other $inputs can be read
 take_session() {
     local option bytes
-    take "--tape --steps --ram --interrupts --until --ram-in $1" '' "${@:2}"
+    take "--tape --steps --ram --interrupts --until --ram-in $1" "$2" "${@:3}"
     [ ${#words[@]} -gt 0 ] || odd "which ROM?"
     [ ${#words[@]} -eq 1 ] || odd "'${words[1]}' is one file too many"
     rom=${words[0]}
@@ -54,10 +54,10 @@ recur() {
     given[--interrupts]=$room/schedule
 }
 
-# play REPORT FROM TO: plays the session, tracing these steps; ends where the console does not begin or breaks off
+# play REPORT FROM TO: plays the session, tracing these steps, or by --drops those of them that drop a byte; ends where the console does not begin or breaks off
 play() {
     work console "$rom" "${given[--tape]:-}" "${given[--interrupts]:-}" "${part[log]:-}" "${given[--ram]:-}" "${given[--steps]:-}" \
-        "$until" "${given[--ram-in]:-}" "${part[ram-out]:-}" "${part[seen]:-}" "$2" "$3" "$1"
+        "$until" "${given[--ram-in]:-}" "${part[ram-out]:-}" "${part[seen]:-}" "$2" "$3" "$1" "${given[--drops]:-}"
     case $? in
     0) ;;
     141) exit 0 ;;

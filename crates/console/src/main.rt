@@ -1,6 +1,7 @@
 // The console: runs a ROM over a tape from reset on. Its arguments, which an empty one leaves out, are as `v30 run` and `v30 trace` hand them
 // on: ROM, TAPE, INTERRUPTS, LOG, RAM, STEPS, UNTIL (an address), the files RAM-IN, RAM-OUT and SEEN, the first and the last step that
-// are traced, and the file of the report. It begins only when all of them can be used, and makes its files anew.
+// are traced, the file of the report, and whether only steps that drop a byte are traced. It begins only when all of them can be used,
+// and makes its files anew.
 mod report;
 mod watch;
 
@@ -58,8 +59,9 @@ fn go_on(
 {
     let mut line = trace::blank();
     let end = watch::put_words(&mut line, s, ram, rom, w);
+    let to = watch::target(s, ram, rom, w);
     let t = session::play(s, ram, rom, tape, log, schedule, plan, 1);
-    watch::note(line, end, s, t, log, schedule, w, keys, counts);
+    watch::note(line, end, to, s, t, log, schedule, w, keys, counts);
     t
 }
 
@@ -158,6 +160,7 @@ fn watched() -> Watch {
         counts: !files::is_left_out(10),
         from: number_or(11, schedule::NONE),
         to: number_or(12, schedule::NONE),
+        drops: !files::is_left_out(14),
     }
 }
 

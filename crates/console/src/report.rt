@@ -92,6 +92,19 @@ fn print_calls(fd: i32, s: Session, calls: usize) -> bool {
             & print_number(fd, b"", s.refused, b" refused\n"))
 }
 
+// The bytes that were written outside RAM, where there are any, and how to find who wrote them.
+fn print_drops(fd: i32, dropped: u64) -> bool {
+    if dropped == 0 {
+        return true;
+    }
+    print_number(
+        fd,
+        b"dropped ",
+        dropped,
+        b" bytes; v30 trace --drops shows which steps\n",
+    )
+}
+
 // The machine's counts.
 fn print_sums(fd: i32, s: Session, tape: usize) -> bool {
     let state = s.state;
@@ -99,9 +112,10 @@ fn print_sums(fd: i32, s: Session, tape: usize) -> bool {
     let written = std::num::wrapping_add_u64(s.emptied, state.progress.log as u64);
     print_number(fd, b"steps ", s.steps, b"\n")
         & (print_number(fd, b"bus cycles ", s.cycles, b"\n")
-            & (print_number(fd, b"tape ", read, b" of ")
-                & (print_number(fd, b"", tape as u64, b" bytes\n")
-                    & print_number(fd, b"log ", written, b" bytes\n"))))
+            & (print_drops(fd, s.dropped)
+                & (print_number(fd, b"tape ", read, b" of ")
+                    & (print_number(fd, b"", tape as u64, b" bytes\n")
+                        & print_number(fd, b"log ", written, b" bytes\n")))))
 }
 
 // The whole report, its last line last so that a report that is cut short is known.

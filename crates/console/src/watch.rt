@@ -4,13 +4,16 @@ use registers::PC;
 use registers::PS;
 use std::num::wrapping_add_u64;
 use std::num::wrapping_sub_u64;
+use trace::Traffic;
+use trace::target::STACK;
 use turns::Session;
 
-// Whether addresses are counted, and the first and the last step that are printed.
+// Whether addresses are counted, the first and the last step that are printed, and whether of these only those that dropped a byte.
 pub struct Watch {
     pub counts: bool,
     pub from: u64,
     pub to: u64,
+    pub drops: bool,
 }
 
 fn is_printed(w: Watch, step: u64) -> bool {
@@ -26,18 +29,34 @@ pub fn put_words(line: &mut [u8; 80], s: Session, ram: &[u8], rom: &[u8], w: Wat
     trace::put_next(line, state, ram, rom)
 }
 
-fn print_step(line: [u8; 80], end: usize, s: Session, t: Session, log: &[u8]) {
+// Where the next step writes, if it is printed.
+pub fn target(s: Session, ram: &[u8], rom: &[u8], w: Watch) -> usize {
+    if !is_printed(w, wrapping_add_u64(s.steps, 1)) {
+        return STACK;
+    }
+    let state = s.state;
+    trace::next_target(state, ram, rom)
+}
+
+fn traffic(s: Session, t: Session, to: usize) -> Traffic {
+    Traffic {
+        cycles: wrapping_sub_u64(t.cycles, s.cycles),
+        dropped: wrapping_sub_u64(t.dropped, s.dropped),
+        to,
+    }
+}
+
+fn print_step(line: [u8; 80], end: usize, to: usize, s: Session, t: Session, log: &[u8]) {
     let a = s.state;
     let b = t.state;
-    let cycles = wrapping_sub_u64(t.cycles, s.cycles);
-    trace::write_step(line, end, t.steps, a, b, cycles, log);
+    trace::write_step(line, end, t.steps, a, b, traffic(s, t, to), log);
 }
 
 fn print_call(call: u64, s: Session, t: Session, log: &[u8]) {
     let a = s.state;
     let b = t.state;
-    let cycles = wrapping_sub_u64(t.cycles, s.cycles);
-    trace::write_call(call / 2 % 256, t.refused != s.refused, a, b, cycles, log);
+    let bus = traffic(s, t, STACK);
+    trace::write_call(call / 2 % 256, t.refused != s.refused, a, b, bus, log);
 }
 
 // The call that was made as the one of this number.
@@ -48,12 +67,20 @@ fn made(schedule: &[u64], n: usize) -> u64 {
     0
 }
 
-fn print_turn(line: [u8; 80], end: usize, s: Session, t: Session, log: &[u8], schedule: &[u64]) {
+fn print_turn(
+    line: [u8; 80],
+    end: usize,
+    to: usize,
+    s: Session,
+    t: Session,
+    log: &[u8],
+    schedule: &[u64],
+) {
     if t.made != s.made {
         print_call(made(schedule, s.made), s, t, log);
     }
     if t.steps != s.steps {
-        print_step(line, end, s, t, log);
+        print_step(line, end, to, s, t, log);
     }
 }
 
@@ -61,6 +88,7 @@ fn print_turn(line: [u8; 80], end: usize, s: Session, t: Session, log: &[u8], sc
 pub fn note(
     line: [u8; 80],
     end: usize,
+    to: usize,
     s: Session,
     t: Session,
     log: &[u8],
@@ -69,8 +97,9 @@ pub fn note(
     keys: &mut [u32; 65536],
     counts: &mut [u64; 65536],
 ) {
-    if is_printed(w, wrapping_add_u64(s.steps, 1)) {
-        print_turn(line, end, s, t, log, schedule);
+    let wanted = !w.drops | (t.dropped != s.dropped);
+    if wanted & is_printed(w, wrapping_add_u64(s.steps, 1)) {
+        print_turn(line, end, to, s, t, log, schedule);
     }
     if w.counts & (t.steps != s.steps) {
         let state = s.state;

@@ -1,6 +1,7 @@
 // What a person sees of a machine: the instruction at PS:PC in the listing's words, registers and flags by name, and the line of a step.
 // Texts go into lines of 80 bytes, where what does not fit is left out.
 pub mod seen;
+pub mod target;
 
 use answers::Decoded;
 use libc::STDOUT_FILENO;
@@ -9,6 +10,8 @@ use line::put_hex;
 use line::put_word;
 use registers::PC;
 use registers::PS;
+use registers::SP;
+use registers::SS;
 use sheet::Entry;
 use sheet::State;
 
@@ -141,12 +144,35 @@ pub fn put_flags(line: &mut [u8; 80], at: usize, a: u16, b: u16, always: bool) -
 
 // ---- what a step did outside the registers
 
+// The bus cycles of a step or a call, the bytes that it dropped, and where it writes.
+pub struct Traffic {
+    pub cycles: u64,
+    pub dropped: u64,
+    pub to: usize,
+}
+
 fn put_cycles(line: &mut [u8; 80], at: usize, cycles: u64) -> usize {
     if cycles == 0 {
         return at;
     }
     let x = put_word(line, at, b"  bus ");
     put_decimal(line, x, cycles)
+}
+
+// The bytes that were dropped, and where they were to go: on the stack that is its end, as it is afterwards.
+fn put_drops(line: &mut [u8; 80], at: usize, bus: Traffic, file: [u16; 14]) -> usize {
+    if bus.dropped == 0 {
+        return at;
+    }
+    let x = put_word(line, at, b"  dropped ");
+    let y = put_decimal(line, x, bus.dropped);
+    let z = put_word(line, y, b" to ");
+    let a = if bus.to < target::STACK {
+        bus.to
+    } else {
+        memory::address(file[SS], file[SP])
+    };
+    put_hex(line, z, a as u64, 5)
 }
 
 fn put_way(line: &mut [u8; 80], at: usize, key: u64) -> usize {
@@ -217,22 +243,34 @@ pub fn put_next(line: &mut [u8; 80], s: State, ram: &[u8], rom: &[u8]) -> usize 
     put_there(line, WORDS, file[PS], file[PC], ram, rom)
 }
 
+// Where the instruction writes that a state is about to do.
+pub fn next_target(s: State, ram: &[u8], rom: &[u8]) -> usize {
+    let file = s.file;
+    match decode::decode(ram, rom, file[PS], file[PC]) {
+        Decoded::Known { instr, .. } => target::of(&file, instr),
+        Decoded::Unknown { .. } => target::STACK,
+    }
+}
+
 // A line: its words, and behind them what a step or a call changed. Where that is nothing no spaces stand at the end.
-fn write_line(words: [u8; 80], end: usize, s: State, t: State, cycles: u64, log: &[u8]) -> bool {
+fn write_line(words: [u8; 80], end: usize, s: State, t: State, bus: Traffic, log: &[u8]) -> bool {
     let a = s.file;
     let b = t.file;
     let mut changes = blank();
     let n = put_registers(&mut changes, 0, a, b);
     let mut effects = blank();
-    let m = put_effects(&mut effects, 0, s, t, cycles, log);
-    let stop = put_byte(&mut effects, m, b'\n');
-    let pad = if (n == 0) & (m == 0) {
+    let m = put_effects(&mut effects, 0, s, t, bus.cycles, log);
+    let mut drops = blank();
+    let k = put_drops(&mut drops, 0, bus, b);
+    let stop = put_byte(&mut drops, k, b'\n');
+    let pad = if (n == 0) & ((m == 0) & (k == 0)) {
         end
     } else {
         column(end)
     };
     write(STDOUT_FILENO, words, pad)
-        & (write(STDOUT_FILENO, changes, n) & write(STDOUT_FILENO, effects, stop))
+        & (write(STDOUT_FILENO, changes, n)
+            & (write(STDOUT_FILENO, effects, m) & write(STDOUT_FILENO, drops, stop)))
 }
 
 // The line of a step, whose words were put before it was done.
@@ -242,12 +280,12 @@ pub fn write_step(
     step: u64,
     s: State,
     t: State,
-    cycles: u64,
+    bus: Traffic,
     log: &[u8],
 ) -> bool {
     let mut line = words;
     put_decimal(&mut line, begin(step), step);
-    write_line(line, end, s, t, cycles, log)
+    write_line(line, end, s, t, bus, log)
 }
 
 fn put_call(line: &mut [u8; 80], vector: u64, refused: bool) -> usize {
@@ -260,10 +298,17 @@ fn put_call(line: &mut [u8; 80], vector: u64, refused: bool) -> usize {
 }
 
 // The line of an interrupt call.
-pub fn write_call(vector: u64, refused: bool, s: State, t: State, cycles: u64, log: &[u8]) -> bool {
+pub fn write_call(
+    vector: u64,
+    refused: bool,
+    s: State,
+    t: State,
+    bus: Traffic,
+    log: &[u8],
+) -> bool {
     let mut line = blank();
     let end = put_call(&mut line, vector, refused);
-    write_line(line, end, s, t, cycles, log)
+    write_line(line, end, s, t, bus, log)
 }
 
 // ---- the end of a session

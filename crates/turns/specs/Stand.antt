@@ -20,7 +20,7 @@ sum64 a b = (a + b) % 2 ^ 64
 
 -- before the first step
 abbrev pub begun : State → Session
-begun t = record { number = 0; state = t; steps = 0; cycles = 0; made = 0; refused = 0; emptied = 0; over = false }
+begun t = record { number = 0; state = t; steps = 0; cycles = 0; dropped = 0; made = 0; refused = 0; emptied = 0; over = false }
 
 -- ---- the schedule: a call is step x 512 + vector x 2 + 1 where it may be masked
 
@@ -64,6 +64,7 @@ answeredBy s plan number t n = record {
   state = t;
   steps = s .steps;
   cycles = sum64 (s .cycles) (n .cycles);
+  dropped = sum64 (s .dropped) (n .dropped);
   made = sum64 (s .made) 1;
   refused = sum64 (s .refused) (pick (eqb number 0) 0 1);
   emptied = s .emptied;
@@ -80,6 +81,7 @@ stoodBy s plan number t k n waits = record {
   state = t;
   steps = sum64 (s .steps) k;
   cycles = sum64 (s .cycles) (n .cycles);
+  dropped = sum64 (s .dropped) (n .dropped);
   made = s .made;
   refused = s .refused;
   emptied = s .emptied;
@@ -99,6 +101,7 @@ emptiedBy s t k n = record {
   state = logEmptied t;
   steps = sum64 (s .steps) k;
   cycles = sum64 (s .cycles) (n .cycles);
+  dropped = sum64 (s .dropped) (n .dropped);
   made = s .made;
   refused = s .refused;
   emptied = sum64 (s .emptied) (t .progress .log);

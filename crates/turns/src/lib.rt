@@ -30,6 +30,7 @@ pub struct Session {
     pub state: State,
     pub steps: u64,
     pub cycles: u64,
+    pub dropped: u64,
     pub made: usize,
     pub refused: u64,
     pub emptied: u64,
@@ -45,6 +46,7 @@ pub fn begin(state: State) -> Session
         state,
         steps: 0,
         cycles: 0,
+        dropped: 0,
         made: 0,
         refused: 0,
         emptied: 0,
@@ -163,11 +165,13 @@ pub fn answered(s: Session, plan: Plan, a: Answer) -> Session
 {
     let t = a.state;
     let cycles = a.bus.cycles as u64;
+    let dropped = a.bus.dropped as u64;
     Session {
         number: 0,
         state: t,
         steps: s.steps,
         cycles: wrapping_add_u64(s.cycles, cycles),
+        dropped: wrapping_add_u64(s.dropped, dropped),
         made: wrapping_add_usize(s.made, 1),
         refused: wrapping_add_u64(s.refused, refusals(a.number)),
         emptied: s.emptied,
@@ -189,12 +193,14 @@ fn stood(s: Session, plan: Plan, r: Ran, waits: bool) -> Session
     let t = r.state;
     let steps = wrapping_add_u64(s.steps, r.steps as u64);
     let cycles = r.bus.cycles as u64;
+    let dropped = r.bus.dropped as u64;
     let number = r.number;
     Session {
         number,
         state: t,
         steps,
         cycles: wrapping_add_u64(s.cycles, cycles),
+        dropped: wrapping_add_u64(s.dropped, dropped),
         made: s.made,
         refused: s.refused,
         emptied: s.emptied,
@@ -233,11 +239,13 @@ fn let_go(s: Session, r: Ran) -> Session
     let t = r.state;
     let state = without_log(t);
     let cycles = r.bus.cycles as u64;
+    let dropped = r.bus.dropped as u64;
     Session {
         number: 0,
         state,
         steps: wrapping_add_u64(s.steps, r.steps as u64),
         cycles: wrapping_add_u64(s.cycles, cycles),
+        dropped: wrapping_add_u64(s.dropped, dropped),
         made: s.made,
         refused: s.refused,
         emptied: wrapping_add_u64(s.emptied, t.progress.log as u64),
