@@ -70,6 +70,8 @@ build() {
     count=$(reach $names | wc -l)
     touch "$kept/begun"
     echo "v30: proving and building the programs from their sources: $count crates, from nothing half an hour on two processors" >&2
+    # it is looked at before the prover has begun to write it
+    : >"$kept/build.txt"
     # a group of its own, so that a signal can end every prover
     set -m
     (cd "$home" && exec rt check $names) </dev/null >"$kept/build.txt" 2>&1 {lock}>&- &
