@@ -19,13 +19,13 @@ use Rattle.sheet.specs.declared.Compute.the-variants.{Decimals}
 use Rattle.sheet.specs.declared.Instr.the-variants.{Computes}
 use Rattle.sheet.specs.declared.Decimal.the-variants.{Sub4s}
 use Rattle.sheet.specs.Width.{add16}
-use Rattle.sheet.specs.Psw.{CY, BRK, unknown, becomes, columns, column, keeps, settle, flagOf, settled}
-use Rattle.sheet.specs.Registers.{IX, IY, DS0, DS1, PC, PSW, CL, inDs0, written, readReg}
+use Rattle.sheet.specs.Psw.{CY, BRK, unknown, becomes, columns, column, keeps, flagOf, settled}
+use Rattle.sheet.specs.Registers.{IX, IY, DS0, DS1, PC, PSW, CL, inDs0, readReg}
 use Rattle.sheet.specs.Memory.{readMem, writeMem}
-use Rattle.sheet.specs.World.{World, world, withState, pswOf, withFile, withPsw}
+use Rattle.sheet.specs.World.{World, world, pswOf, withPsw}
 use Rattle.sheet.specs.Act.{Act, affect, loop, _>>=_}
 use Rattle.sheet.specs.Handler.{Event, done, nothing, run, runBy, tally}
-use Rattle.sheet.specs.Contract.{ends, seen, exec, Ends, report, reportOf}
+use Rattle.sheet.specs.Contract.{ends, seen, exec, Ends, report}
 use Rattle.sheet.specs.Reading as reading
 use Rattle.sheet.specs.Reading.{known, scan}
 use Rattle.sheet.specs.Encoding.{unprefixed, prefixOf, lookUp}
@@ -35,7 +35,7 @@ use Rattle.sheet.specs.Operand.{regValue}
 use Rattle.sheet.specs.Decimal.{digits, link, chained, string}
 use Rattle.sheet.specs.Traps.{untrapped}
 use Rattle.sheet.specs.Execute.{computing, decimal, operation, execute}
-use Rattle.sheet.specs.Step.{fits, sound, source, loadsSegment, singleStep, starting, stepping, step, stepReport}
+use Rattle.sheet.specs.Step.{fits, sound, source, loadsSegment, singleStep, starting, stepping, step, stepReport, instructionIn}
 use Rattle.sheet.proofs.PswLaws.{flag-settled}
 use Rattle.sheet.proofs.Rules.{seq-last, ends-pure, seq-registers, seq-set, seq-flag}
 use Rattle.sheet.proofs.BlockLaws.{no-prefix, Begins, scan-prefixes}
@@ -79,9 +79,9 @@ no-prefix-byte : prefixOf 0x0f ≡ none
 unfolding prefixOf
 no-prefix-byte = refl
 
-sub4s-read : (src : ℕ → ℕ) → src 0 ≡ 0x0f → src 1 ≡ 0x22 → scan instruction src 0 ≡ known subtraction 2
-unfolding instruction
-sub4s-read src e f = scan-prefixes 0x0f 3 src 0 no-prefix (lit≤ tt) no-prefix-byte (begins-so src e) ∙ second-read src f
+sub4s-read : (w : World) → source w 0 ≡ 0x0f → source w 1 ≡ 0x22 → instructionIn w ≡ known subtraction 2
+unfolding instructionIn instruction
+sub4s-read w e f = scan-prefixes 0x0f 3 (source w) 0 no-prefix (lit≤ tt) no-prefix-byte (begins-so (source w) e) ∙ second-read (source w) f
 
 -- ---- the tree
 
@@ -192,7 +192,7 @@ module _ (w : World) (m n : ℕ) (hm : m < 100) (hn : n < 100) (s : Subtracting 
   sub4s-step =
       let (b, e) = string-ends u one-byte in
       let t = stepping-ends (starting subtraction w) (leftBy u (digitsIn u)) b e (starting-untraced w (s .untraced)) in
-      let d = as-done (step w) (leftBy u (digitsIn u)) b (ap seen (step-is w subtraction 2 (s .fit, s .good) (s .up) (sub4s-read (source w) (s .first) (s .second))) ∙ t .is) in
+      let d = as-done (step w) (leftBy u (digitsIn u)) b (ap seen (step-is w subtraction 2 (s .fit, s .good) (s .up) (sub4s-read w (s .first) (s .second))) ∙ t .is) in
       (leftBy u (digitsIn u), d .events, d .is, ram-left, cy-left)
 
   -- as code answers it
