@@ -32,6 +32,8 @@ use Rattle.sheet.specs.Encoding.{unprefixed, prefixOf, lookUp}
 use Rattle.sheet.specs.SecondByte.{secondBytes}
 use Rattle.sheet.specs.FirstByte.{firstBytes, instruction}
 use Rattle.sheet.specs.Operand.{regValue}
+use Rattle.sheet.specs.declared.Way.the-variants.{Subtraction}
+use Rattle.sheet.specs.declared.Storing.the-variants.{Stored}
 use Rattle.sheet.specs.Decimal.{digits, link, chained, string}
 use Rattle.sheet.specs.Traps.{untrapped}
 use Rattle.sheet.specs.Execute.{computing, decimal, operation, execute}
@@ -90,7 +92,7 @@ closing c = affect (columns unknown (becomes (c .cy)) unknown unknown unknown (b
 
 -- one byte of each string
 digitsIn : World → Digits
-digitsIn u = digits true (readMem false (u .ram) (u .rom) (reg u DS1) (add16 (reg u IY) 0)) (readMem false (u .ram) (u .rom) (reg u DS0) (add16 (reg u IX) 0)) false
+digitsIn u = digits Subtraction (readMem false (u .ram) (u .rom) (reg u DS1) (add16 (reg u IY) 0)) (readMem false (u .ram) (u .rom) (reg u DS0) (add16 (reg u IX) 0)) false
 
 pswBy : World → Digits → ℕ
 pswBy u d = settled keeps (column (columns unknown (becomes (d .cy)) unknown unknown unknown (becomes (true && eqb (d .value) 0)))) (pswOf (u .state))
@@ -98,20 +100,20 @@ pswBy u d = settled keeps (column (columns unknown (becomes (d .cy)) unknown unk
 leftBy : World → Digits → World
 leftBy u d = world (withPsw (u .state) (pswBy u d)) (writeMem false (u .ram) (reg u DS1) (add16 (reg u IY) 0) (d .value)) (u .rom) (u .tape) (u .log)
 
-chained-one : (u : World) → (b : Bus) × (exec (chained true true inDs0 1 >>= closing) u ≡ ends tt (leftBy u (digitsIn u)) b)
+chained-one : (u : World) → (b : Bus) × (exec (chained Subtraction Stored inDs0 1 >>= closing) u ≡ ends tt (leftBy u (digitsIn u)) b)
 unfolding chained loop link closing digitsIn pswBy leftBy exec run runBy _>>=_
 chained-one u = (_, refl)
 
-string-is : (u : World) → exec (string true true inDs0) u ≡ exec (chained true true inDs0 ((readReg false (reg u) CL + 1) / 2) >>= closing) u
+string-is : (u : World) → exec (string Subtraction Stored inDs0) u ≡ exec (chained Subtraction Stored inDs0 ((readReg false (reg u) CL + 1) / 2) >>= closing) u
 unfolding string regValue closing exec run runBy _>>=_
 string-is u = refl
 
-string-ends : (u : World) → (readReg false (reg u) CL + 1) / 2 ≡ 1 → (b : Bus) × Ends Unit (string true true inDs0) u tt (leftBy u (digitsIn u)) b
+string-ends : (u : World) → (readReg false (reg u) CL + 1) / 2 ≡ 1 → (b : Bus) × Ends Unit (string Subtraction Stored inDs0) u tt (leftBy u (digitsIn u)) b
 string-ends u e =
     let (b, q) = chained-one u in
-    (b, record { is = string-is u ∙ subst (λ (k : ℕ). exec (chained true true inDs0 k >>= closing) u ≡ ends tt (leftBy u (digitsIn u)) b) (sym e) q })
+    (b, record { is = string-is u ∙ subst (λ (k : ℕ). exec (chained Subtraction Stored inDs0 k >>= closing) u ≡ ends tt (leftBy u (digitsIn u)) b) (sym e) q })
 
-module _ (w x : World) (b : Bus) (h : Ends Unit (string true true inDs0) (begun w (add16 (reg w PC) 2)) tt x b) where
+module _ (w x : World) (b : Bus) (h : Ends Unit (string Subtraction Stored inDs0) (begun w (add16 (reg w PC) 2)) tt x b) where
   execute-ends : Ends Bool (execute subtraction 2) w false x b
   unfolding execute operation untrapped computing decimal subtraction
   execute-ends = seq-registers _ (seq-set PC (add16 (reg w PC) 2) _ (seq-last _ h ends-pure))
