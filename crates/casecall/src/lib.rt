@@ -9,7 +9,7 @@ ghost use Rattle.engine.specs.Runs.{Runs};
 ghost use Rattle.casecall.specs.Called.{stepsOf, resetAs, bytesOf, laid, Called, Result, Reading};
 
 // What the four calls on the machine come to.
-pub struct Done {
+struct Done {
     pub number: u8,
     pub steps: u32,
     pub state: State,
@@ -88,7 +88,7 @@ fn reset() -> Done
 }
 
 // The call of a case, of those on the machine.
-pub fn called(s: State, ram: &mut [u8], rom: &[u8], tape: &[u8], log: &mut [u8], c: Case) -> Done
+fn called(s: State, ram: &mut [u8], rom: &[u8], tape: &[u8], log: &mut [u8], c: Case) -> Done
     ensures { λ r. ⌜ Called c s (now (ram .entry)) (now (rom .entry)) (now (tape .entry)) (now (log .entry)) r (now (ram .exit)) (now (log .exit)) ⌝ }
 {
     let call = c.call;

@@ -114,7 +114,7 @@ fn goes_on(file: &[u16; 14], repeat: Repeat) -> bool
     }
 }
 
-pub fn goes_on_after(file: &[u16; 14], primitive: Primitive, repeat: Repeat) -> bool
+fn goes_on_after(file: &[u16; 14], primitive: Primitive, repeat: Repeat) -> bool
     ensures { λ r. ⌜ OnFile Bool (tree.goesOnAfter primitive repeat) (now (file .entry)) r (now (file .entry)) ⌝ }
 {
     match primitive {

@@ -17,7 +17,7 @@ fn output_buffer() -> [u8; 786472] {
 }
 
 // Prints the listing of a log.
-pub fn print(log: &[u8]) {
+fn print(log: &[u8]) {
     let mut out = output_buffer();
     let n = listing::report(log, &mut out);
     if !write_all(STDOUT_FILENO, &out[..n]) {

@@ -28,7 +28,7 @@ pub fn read_byte(ram: &[u8], rom: &[u8], base: u16, offset: u16) -> u8
 }
 
 // Writes a byte, and says whether it landed; outside RAM the write is dropped.
-pub fn write_byte(ram: &mut [u8], base: u16, offset: u16, v: u8) -> bool
+fn write_byte(ram: &mut [u8], base: u16, offset: u16, v: u8) -> bool
     ensures { λ r. ⌜ Lands (now (ram .entry)) (physical base offset) v (now (ram .exit)) r ⌝ }
 {
     let a = address(base, offset);
@@ -47,7 +47,7 @@ fn missed(landed: bool) -> u32
 }
 
 // A byte, or a word with its low byte first.
-pub fn read(word: bool, ram: &[u8], rom: &[u8], base: u16, offset: u16) -> u16
+fn read(word: bool, ram: &[u8], rom: &[u8], base: u16, offset: u16) -> u16
     ensures { λ r. ⌜ (r ≡ readMem word (now (ram .entry)) (now (rom .entry)) base offset) × (r < modOf word) ⌝ }
 {
     let low = read_byte(ram, rom, base, offset) as u16;
@@ -59,7 +59,7 @@ pub fn read(word: bool, ram: &[u8], rom: &[u8], base: u16, offset: u16) -> u16
 }
 
 // How many of its bytes were dropped.
-pub fn write(word: bool, ram: &mut [u8], base: u16, offset: u16, v: u16) -> u32
+fn write(word: bool, ram: &mut [u8], base: u16, offset: u16, v: u16) -> u32
     ensures { λ r. ⌜ Writes word (now (ram .entry)) base offset v (now (ram .exit)) r ⌝ }
 {
     let low = missed(write_byte(ram, base, offset, (v % 256) as u8));

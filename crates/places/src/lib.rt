@@ -24,7 +24,7 @@ ghost use Rattle.places.specs.Operands.{Operands};
 // The number of DS0, the segment of most operands.
 const DS0: u8 = 3;
 
-pub struct AddressRead {
+struct AddressRead {
     pub address: Address,
     pub next: u16,
 }

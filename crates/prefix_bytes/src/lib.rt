@@ -23,7 +23,7 @@ const DS0: u8 = 3;
 const MOST: u16 = 3;
 
 // Whether a byte is a prefix, and what all prefixes say then.
-pub struct Found {
+struct Found {
     pub prefix: bool,
     pub prefixes: Prefixes,
 }

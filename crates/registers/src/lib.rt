@@ -28,8 +28,6 @@ pub const PS: usize = 9;
 
 pub const SS: usize = 10;
 
-pub const DS0: usize = 11;
-
 pub const PC: usize = 12;
 
 pub const PSW: usize = 13;

@@ -56,7 +56,7 @@ fn high_after(column: usize, high: u8, c: u8) -> u8
 }
 
 // Whether the image had the room, and how long it is.
-pub struct Restored {
+struct Restored {
     pub fits: bool,
     pub len: usize,
 }

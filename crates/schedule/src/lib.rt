@@ -99,7 +99,7 @@ fn is_over(text: &[u8], at: usize) -> bool {
 }
 
 // What a line says: a call as one number, step x 512 + vector x 2 + 1 where it may be masked.
-pub enum Line {
+enum Line {
     Call(u64),
     Nothing,
     Faulty,

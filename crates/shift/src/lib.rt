@@ -79,7 +79,7 @@ fn to_right(word: bool, b: bool, x: u16) -> Turn
 }
 
 // One place of a kind.
-pub fn one_place(kind: Shift, word: bool, t: Turn) -> Turn
+fn one_place(kind: Shift, word: bool, t: Turn) -> Turn
     ensures { λ r. ⌜ r ≡ onePlace kind word t ⌝ }
 {
     let b = comes_in(kind, word, t);
@@ -91,7 +91,7 @@ pub fn one_place(kind: Shift, word: bool, t: Turn) -> Turn
 }
 
 // n places, all 8 bits of a count: all but the last at once, then the last, and what goes out there is CY.
-pub fn many_places(kind: Shift, word: bool, n: u8, t: Turn) -> Turn
+fn many_places(kind: Shift, word: bool, n: u8, t: Turn) -> Turn
     ensures { λ r. ⌜ r ≡ manyPlaces kind word n t ⌝ }
 {
     if n == 0 {

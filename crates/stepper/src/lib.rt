@@ -22,7 +22,7 @@ fn count_on(count: u32) -> u32
     if count < 2097151 { count + 1 } else { 2097151 }
 }
 
-pub struct Finished {
+struct Finished {
     pub marks: Marks,
     pub bus: Bus,
 }

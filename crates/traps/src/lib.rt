@@ -41,7 +41,7 @@ pub fn push_ps_pc(file: &mut [u16; 14], ram: &mut [u8], rom: &[u8]) -> Bus
 }
 
 // PSW, PS and the PC then due go onto the stack; IE and BRK become 0.
-pub fn save(file: &mut [u16; 14], ram: &mut [u8], rom: &[u8]) -> Bus
+fn save(file: &mut [u16; 14], ram: &mut [u8], rom: &[u8]) -> Bus
     ensures { λ r. ⌜ Does tree.save file ram rom r 6 ⌝ }
 {
     let old = word::word(file[PSW]);
@@ -52,13 +52,13 @@ pub fn save(file: &mut [u16; 14], ram: &mut [u8], rom: &[u8]) -> Bus
 }
 
 // Where a vector points.
-pub struct Target {
+struct Target {
     pub pc: u16,
     pub ps: u16,
     pub bus: Bus,
 }
 
-pub fn vector(ram: &[u8], rom: &[u8], v: u8) -> Target
+fn vector(ram: &[u8], rom: &[u8], v: u8) -> Target
     ensures { λ r. ⌜ Fetches (now (ram .entry)) (now (rom .entry)) v (r .pc) (r .ps) (r .bus) ⌝ }
 {
     let at = 4 * (v as u16);
