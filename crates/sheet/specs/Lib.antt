@@ -30,6 +30,6 @@ pub mod Execute
 pub mod Encoding
 pub mod SecondByte
 pub mod FirstByte
+pub mod Lendable
 pub mod Step
 pub mod Run
-pub mod Reach

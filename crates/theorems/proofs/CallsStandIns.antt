@@ -25,7 +25,8 @@ use Rattle.sheet.specs.Step.{fits, sound, awake, stepBy, step, stepReport, inte
 use Rattle.sheet.proofs.SmallTable.{small-table}
 use Rattle.portlog.proofs.Vectors.{sample-first}
 use Rattle.theorems.specs.Bounds.{Bytes}
-use Rattle.theorems.specs.StandIns.{every, lendable, MeetsStep, MeetsInterrupt, MeetsReader, numberOf, worldOf, busOf, subtracting, subtracted, adjusting, adjusted, asleep, callable, entered, masked, sampleLog}
+use Rattle.sheet.specs.Lendable.{every, lendable}
+use Rattle.theorems.specs.StandIns.{MeetsStep, MeetsInterrupt, MeetsReader, numberOf, worldOf, busOf, subtracting, subtracted, adjusting, adjusted, asleep, callable, entered, masked, sampleLog}
 
 -- ---- buffers
 

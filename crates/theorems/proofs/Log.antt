@@ -15,7 +15,7 @@ use Rattle.sheet.proofs.Replay.{Track, trackOf, logged, effect, replay, Replays
 use Rattle.portlog.specs.Whole.{Row, AllSound, rowBytes, logBytes, at-end, Reads}
 use Rattle.portlog.proofs.Whole.{rule-able, written-read}
 use Rattle.portlog.proofs.Growth.{log-grows}
-use Rattle.theorems.specs.StandIns.{lendable}
+use Rattle.sheet.specs.Lendable.{lendable}
 use Rattle.theorems.specs.Rows.{Use, none, access, useOf, rowOf, rowsOfUse, sinceUse, rowsOf, since, rowsAlong, sinceAlong, stepsFrom, worldAfter}
 use Rattle.theorems.proofs.PortOnce.{AtMostOne, no-row, one-row, step-row}
 

@@ -39,7 +39,7 @@ use Rattle.portlog.specs.Whole.{Row, Sound}
 use Rattle.portlog.proofs.Growth.{access-sound}
 use Rattle.portlog.proofs.Picked.{picked}
 use Rattle.theorems.specs.Repeat.{reg, repeats}
-use Rattle.theorems.specs.StandIns.{lendable}
+use Rattle.sheet.specs.Lendable.{lendable}
 use Rattle.theorems.specs.Rows.{Use, none, access, rowsOfUse, rowsOf}
 use Rattle.theorems.specs.Access.{takenBy, ofIo, ofPrimitive, accessOf, tapeNeed, logNeed}
 use Rattle.theorems.specs.Outcomes.{Passes}

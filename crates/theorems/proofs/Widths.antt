@@ -16,7 +16,7 @@ use Rattle.sheet.specs.World.{World}
 use Rattle.sheet.specs.Handler.{taped}
 use Rattle.portlog.proofs.Picked.{picked}
 use Rattle.theorems.specs.Bounds.{Bytes}
-use Rattle.theorems.specs.StandIns.{every, lendable}
+use Rattle.sheet.specs.Lendable.{every, lendable}
 
 -- no number of a list exceeds a top
 abbrev pub Under : ℕ → List ℕ → Type 0

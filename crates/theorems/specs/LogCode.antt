@@ -12,7 +12,7 @@ use Rattle.sheet.specs.Run.{FinishedStep}
 use Rattle.portlog.specs.Whole.{Row}
 use Rattle.logreader.specs.Answer.{Answers}
 use Rattle.engine.specs.Runs.{Runs}
-use Rattle.theorems.specs.StandIns.{lendable}
+use Rattle.sheet.specs.Lendable.{lendable}
 use Rattle.theorems.specs.RepeatCode.{StepCall, InterruptCall}
 use Rattle.theorems.specs.Rows.{stepsFrom, worldAfter}
 
