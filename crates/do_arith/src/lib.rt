@@ -10,7 +10,7 @@ use sheet::Unary;
 ghost use mathlib.Core.Path.{_≡_};
 ghost use Prim.Native.Nat.{ℕ};
 ghost use Rattle.sheet.specs.Arithmetic as tree;
-ghost use Rattle.sheet.specs.Execute.{calculate};
+ghost use Rattle.sheet.specs.Arithmetic.{calculate};
 ghost use Rattle.tally.specs.Lent.{Does};
 
 // CMP drops the difference.

@@ -7,7 +7,6 @@ use sheet::Way;
 ghost use Rattle.sheet.specs.Adjust as adjust;
 ghost use Rattle.sheet.specs.Contract.{OnFile};
 ghost use Rattle.sheet.specs.Convert as sheet;
-ghost use Rattle.sheet.specs.Execute as tree;
 
 // ADJ4A or ADJ4S.
 fn adj4(file: &mut [u16; 14], way: Way)
@@ -57,7 +56,7 @@ fn cvtwl(file: &mut [u16; 14])
 }
 
 pub fn convert(file: &mut [u16; 14], i: Convert)
-    ensures { λ _. ⌜ OnFile Unit (tree.convert i) (now (file .entry)) tt (now (file .exit)) ⌝ }
+    ensures { λ _. ⌜ OnFile Unit (sheet.convert i) (now (file .entry)) tt (now (file .exit)) ⌝ }
 {
     match i {
         Convert::Adjba => adjb(file, Way::Addition),

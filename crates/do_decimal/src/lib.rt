@@ -14,7 +14,6 @@ ghost use mathlib.Core.Path.{_≡_};
 ghost use Prim.Native.Nat.{_≤_};
 ghost use Rattle.sheet.specs.Psw.{unknown, becomes, columns, column, keeps, settled};
 ghost use Rattle.sheet.specs.Decimal as sheet;
-ghost use Rattle.sheet.specs.Execute as tree;
 ghost use Rattle.tally.specs.Lent.{Does, Fills};
 ghost use Rattle.do_decimal.specs.Both.{Both};
 
@@ -169,7 +168,7 @@ fn ror4(file: &mut [u16; 14], ram: &mut [u8], rom: &[u8], to: Place) -> Bus
 }
 
 pub fn decimal(file: &mut [u16; 14], ram: &mut [u8], rom: &[u8], i: Decimal) -> Bus
-    ensures { λ r. ⌜ Does (tree.decimal i) file ram rom r 384 ⌝ }
+    ensures { λ r. ⌜ Does (sheet.decimal i) file ram rom r 384 ⌝ }
 {
     match i {
         Decimal::Add4s { seg } => string(file, ram, rom, Way::Addition, Storing::Stored, seg),

@@ -12,7 +12,6 @@ ghost use lib.Dec.{leb};
 ghost use Rattle.sheet.specs.Width.{pick, add16};
 ghost use Rattle.sheet.specs.Registers.{fileOf};
 ghost use Rattle.sheet.specs.Fields as sheet;
-ghost use Rattle.sheet.specs.Execute as tree;
 ghost use Rattle.sheet.specs.Contract.{OnFile};
 ghost use Rattle.tally.specs.Lent.{Does, Fills, Finds, Takes};
 
@@ -128,7 +127,7 @@ fn ext(file: &mut [u16; 14], ram: &[u8], rom: &[u8], seg: u8, offset: u8, length
 }
 
 pub fn field(file: &mut [u16; 14], ram: &mut [u8], rom: &[u8], i: Field) -> Bus
-    ensures { λ r. ⌜ Does (tree.field i) file ram rom r 8 ⌝ }
+    ensures { λ r. ⌜ Does (sheet.field i) file ram rom r 8 ⌝ }
 {
     match i {
         Field::Ins { offset, length } => ins(file, ram, rom, offset, length),

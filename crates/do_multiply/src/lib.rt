@@ -12,7 +12,6 @@ ghost use mathlib.Core.Path.{_≡_};
 ghost use mathlib.Core.Bool.{Bool};
 ghost use Rattle.sheet.specs.Registers.{fileOf};
 ghost use Rattle.sheet.specs.Multiply as sheet;
-ghost use Rattle.sheet.specs.Execute as tree;
 ghost use Rattle.sheet.specs.Contract.{OnFile};
 ghost use Rattle.tally.specs.Lent.{Gives, Takes};
 ghost use Rattle.do_multiply.specs.Within.{Held, Within};
@@ -144,7 +143,7 @@ fn div(file: &mut [u16; 14], ram: &mut [u8], rom: &[u8], word: bool, by: Place) 
 }
 
 pub fn multiply(file: &mut [u16; 14], ram: &mut [u8], rom: &[u8], i: Multiply) -> Worked
-    ensures { λ r. ⌜ Gives Bool (tree.multiply i) file ram rom (r .trapped) (r .bus) 10 ⌝ }
+    ensures { λ r. ⌜ Gives Bool (sheet.multiply i) file ram rom (r .trapped) (r .bus) 10 ⌝ }
 {
     match i {
         Multiply::Mulu { word, by } => Worked {

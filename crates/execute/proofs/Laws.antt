@@ -23,7 +23,8 @@ use Rattle.sheet.specs.Block.{block}
 use Rattle.sheet.specs.Ports.{ports}
 use Rattle.sheet.specs.Control.{control}
 use Rattle.sheet.specs.Traps.{untrapped}
-use Rattle.sheet.specs.Execute.{multiply, computing, moving, operation}
+use Rattle.sheet.specs.Multiply.{multiply}
+use Rattle.sheet.specs.Execute.{computing, moving, operation}
 use Rattle.sheet.specs.Contract.{OnMemory}
 use Rattle.sheet.proofs.Rules.{seq-last, seq-free, seq-stops, ends-pure}
 use Rattle.tally.specs.Sums.{Free}
