@@ -45,27 +45,19 @@ above-row r b h = go (leb (r .from) b)
     go true = le-ltb b (r .from + r .many) h
     go false = refl
 
-pub row-at : (t : List Row) (n b : ℕ) → starts n t ≡ true → n ≤ b → b < n + rowFrom n t .many → lookUp t b ≡ rowFrom n t .reads (b - n)
+pub row-at : (t : List Row) (n b : ℕ) → starts n t ≡ true → n ≤ b → b < n + rowFrom n t .many → lookUp t b ≡ rowFrom n t .reads b
 unfolding lookUp
 row-at [] n b e h k = absurd (omega arith)
 row-at (r ∷ t) n b e h k = go (eqb (r .from) n) refl e k (λ y l. row-at t n b y h l)
   where
     go : (c : Bool) → eqb (r .from) n ≡ c → pick c true (leb (r .from + r .many) n && starts n t) ≡ true → b < n + pick c r (rowFrom n t) .many
-        → (starts n t ≡ true → b < n + rowFrom n t .many → lookUp t b ≡ rowFrom n t .reads (b - n))
-        → lookUp (r ∷ t) b ≡ pick c r (rowFrom n t) .reads (b - n)
+        → (starts n t ≡ true → b < n + rowFrom n t .many → lookUp t b ≡ rowFrom n t .reads b)
+        → lookUp (r ∷ t) b ≡ pick c r (rowFrom n t) .reads b
     go true q e k others = let f : r .from ≡ n = eqb-true (r .from) n q in rw (f, le-leb n b h, lt-ltb b (n + r .many) k)
     go false q e k others =
         let (x, y) = and-eq-true-iff (leb (r .from + r .many) n) (starts n t) .0 e in
         let z = leb-true (r .from + r .many) n x in
         passed r t b (above-row r b (omega arith)) ∙ others y k
-
--- ---- the low bits of a code, where n is the first code of its row
-
-pub low-bit : (n b : ℕ) → n ≤ b → n % 2 ≡ 0 → b % 2 ≡ (b - n) % 2
-low-bit n b h e = omega arith
-
-pub low-bits : (n b : ℕ) → n ≤ b → b < n + 8 → n % 8 ≡ 0 → b % 8 ≡ b - n
-low-bits n b h k e = omega arith
 
 -- ---- codes that no row has
 
@@ -118,7 +110,7 @@ unfolding lookUp
 uncovered [] b e = refl
 uncovered (r ∷ t) b e = go (covers r b) e (uncovered t b)
   where
-    go : (c : Bool) → (c || covered t b) ≡ false → (covered t b ≡ false → lookUp t b ≡ no 3) → pick c (r .reads (b - r .from)) (lookUp t b) ≡ no 3
+    go : (c : Bool) → (c || covered t b) ≡ false → (covered t b ≡ false → lookUp t b ≡ no 3) → pick c (r .reads b) (lookUp t b) ≡ no 3
     go true e others = let z : _≡_ {A = ℕ} 0 1 = cc in absurd (omega arith)
     go false e others = others e
 
@@ -126,11 +118,11 @@ uncovered (r ∷ t) b e = go (covers r b) e (uncovered t b)
 
 module _ {t : List Row} {b : ℕ} {src : ℕ → ℕ} {i : ℕ} where
   -- n is the row's first code
-  pub at-row : (n : ℕ) {r : Decoded} → starts n t ≡ true → n ≤ b → b < n + rowFrom n t .many → Decodes (rowFrom n t .reads (b - n)) src i r → Names t b src i r
+  pub at-row : (n : ℕ) {r : Decoded} → starts n t ≡ true → n ≤ b → b < n + rowFrom n t .many → Decodes (rowFrom n t .reads b) src i r → Names t b src i r
   at-row n e h k x = record { is = decodes-as (row-at t n b e h k) x }
 
   -- a row of one code
-  pub at-one : (n : ℕ) {r : Decoded} → starts n t ≡ true → leb 1 (rowFrom n t .many) ≡ true → b ≡ n → Decodes (rowFrom n t .reads (b - n)) src i r → Names t b src i r
+  pub at-one : (n : ℕ) {r : Decoded} → starts n t ≡ true → leb 1 (rowFrom n t .many) ≡ true → b ≡ n → Decodes (rowFrom n t .reads b) src i r → Names t b src i r
   at-one n e s q x = let l = leb-true 1 (rowFrom n t .many) s in at-row n e (omega arith) (omega arith) x
 
   -- of n codes from lo on, those that no arm took have no row

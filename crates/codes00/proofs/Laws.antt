@@ -33,8 +33,8 @@ use Rattle.places.proofs.OperandsLaws.{with-place}
 -- codes 0 to 3, 4 and 5, 6, and 7, of which 0F and those from 20 on are as the table has them
 abbrev columns : Prefixes → ℕ → Reading Instr
 columns p b =
-    pick (ltb (b % 8) 4) (withPlace p (λ reg a. got (twoPlaces (operationAt (b / 8)) (b % 8) reg a)))
-    (pick (ltb (b % 8) 6) (withAcc (λ v. Calculates (Two (operationAt (b / 8)) (W (b % 8 - 4)) (Register AW) v)) (W (b % 8 - 4)))
+    pick (ltb (b % 8) 4) (withPlace p (λ reg a. got (twoPlaces (operationAt (b / 8)) b reg a)))
+    (pick (ltb (b % 8) 6) (withAcc (λ v. Calculates (Two (operationAt (b / 8)) (W b) (Register AW) v)) (W b))
     (pick (eqb (b % 8) 6) (pick (ltb b 0x20) (got (Stacks (PushSegment (b / 8)))) (no 3))
     (pick (ltb b 0x20 && not (eqb b 0x0f)) (got (Stacks (PopSegment (b / 8)))) (lookUp (bytes00 p) b))))
 
@@ -46,15 +46,14 @@ column6 : (p : Prefixes) (b : ℕ) → b < 0x40 → b % 8 ≡ 6 → lookUp (byte
 column6 p b h k = by-column p b h ∙ rw (le-ltb (b % 8) 4 (omega arith), le-ltb (b % 8) 6 (omega arith), eq-eqb (b % 8) 6 k)
 
 module _ (p : Prefixes) {b : ℕ} {src : ℕ → ℕ} {i : ℕ} (h : b < 0x40) where
-  pub at-places : {op : Operation} {r : Decoded} → b % 8 < 4 → op ≡ operationAt (b / 8) → Decodes (withPlace p (λ reg a. got (twoPlaces op (b % 8) reg a))) src i r → Names (bytes00 p) b src i r
+  pub at-places : {op : Operation} {r : Decoded} → b % 8 < 4 → op ≡ operationAt (b / 8) → Decodes (withPlace p (λ reg a. got (twoPlaces op b reg a))) src i r → Names (bytes00 p) b src i r
   at-places k e x = record { is = decodes-as (by-column p b h ∙ rw (lt-ltb (b % 8) 4 k)) (rw e at x) }
 
   -- the accumulator and an immediate
   pub at-acc : {op : Operation} {j v : ℕ} {r : Decoded} → 4 ≤ b % 8 → b % 8 < 6 → op ≡ operationAt (b / 8) → Takes ℕ (immediate (W b)) src i v j 2
       → r ≡ Known (Calculates (Two op (W b) (Register AW) (Immediate v))) j → Names (bytes00 p) b src i r
   at-acc {op} l k e x q =
-      let y : b % 2 ≡ (b % 8 - 4) % 2 = omega arith in
-      record { is = decodes-as (by-column p b h ∙ rw (le-ltb (b % 8) 4 l, lt-ltb (b % 8) 6 k)) (rw (e, y) at (with-acc (W b) (λ s. Calculates (Two op (W b) (Register AW) s)) x q)) }
+      record { is = decodes-as (by-column p b h ∙ rw (le-ltb (b % 8) 4 l, lt-ltb (b % 8) 6 k)) (rw e at (with-acc (W b) (λ s. Calculates (Two op (W b) (Register AW) s)) x q)) }
 
   pub at-segment : {r : Decoded} → b % 8 ≡ 6 → b < 0x20 → r ≡ Known (Stacks (PushSegment (b / 8))) i → Names (bytes00 p) b src i r
   at-segment k l e = record { is = decodes-as (column6 p b h k ∙ rw (lt-ltb b 0x20 l)) (decodes-known e) }
@@ -69,9 +68,9 @@ module _ (p : Prefixes) {b : ℕ} {src : ℕ → ℕ} {i : ℕ} (h : b < 0x40) w
 
 -- ---- two places
 
-module _ {p : Prefixes} {src : ℕ → ℕ} {i reg j : ℕ} {a : Place} (o : Operands p src i reg a j) (op : Operation) (n : ℕ) {r : Decoded} where
-  pub to-register : n / 2 % 2 ≡ 1 → r ≡ Known (Calculates (Two op (W n) (Register reg) (Held a))) j → Decodes (withPlace p (λ reg a. got (twoPlaces op n reg a))) src i r
-  to-register h e = with-place o _ (decodes-known (rw (eq-eqb (n / 2 % 2) 1 h) e))
+module _ {p : Prefixes} {src : ℕ → ℕ} {i reg j : ℕ} {a : Place} (o : Operands p src i reg a j) (op : Operation) (b : ℕ) {r : Decoded} where
+  pub to-register : b / 2 % 2 ≡ 1 → r ≡ Known (Calculates (Two op (W b) (Register reg) (Held a))) j → Decodes (withPlace p (λ reg a. got (twoPlaces op b reg a))) src i r
+  to-register h e = with-place o _ (decodes-known (rw (eq-eqb (b / 2 % 2) 1 h) e))
 
-  pub to-place : (n / 2 % 2 ≡ 1 → ⊥) → r ≡ Known (Calculates (Two op (W n) a (Held (Register reg)))) j → Decodes (withPlace p (λ reg a. got (twoPlaces op n reg a))) src i r
-  to-place h e = with-place o _ (decodes-known (rw (ne-eqb (n / 2 % 2) 1 h) e))
+  pub to-place : (b / 2 % 2 ≡ 1 → ⊥) → r ≡ Known (Calculates (Two op (W b) a (Held (Register reg)))) j → Decodes (withPlace p (λ reg a. got (twoPlaces op b reg a))) src i r
+  to-place h e = with-place o _ (decodes-known (rw (ne-eqb (b / 2 % 2) 1 h) e))

@@ -25,17 +25,17 @@ fn two_places(
     pc: u16,
     p: Prefixes,
     op: Operation,
-    n: u8,
+    b: u8,
     i: u16,
 ) -> Decoded
     requires { ⌜ i ≤ 4 ⌝ }
-    ensures { λ r. ⌜ Decodes (withPlace p (λ reg a. got (twoPlaces op n reg a))) (codeByte (now (ram .entry)) (now (rom .entry)) ps pc) i r ⌝ }
+    ensures { λ r. ⌜ Decodes (withPlace p (λ reg a. got (twoPlaces op b reg a))) (codeByte (now (ram .entry)) (now (rom .entry)) ps pc) i r ⌝ }
 {
     let o = places::operands(ram, rom, ps, pc, p, i);
     let place = o.place;
     let reg = Place::Register(o.reg);
-    let word = n % 2 == 1;
-    let group = if n / 2 % 2 == 1 {
+    let word = b % 2 == 1;
+    let group = if b / 2 % 2 == 1 {
         Arithmetic::Two {
             op: op,
             word: word,
@@ -82,7 +82,7 @@ pub fn codes00(ram: &[u8], rom: &[u8], ps: u16, pc: u16, p: Prefixes, b: u8, i: 
     if n < 6 {
         let op = places::operation_at(b / 8);
         if n < 4 {
-            return two_places(ram, rom, ps, pc, p, op, n, i);
+            return two_places(ram, rom, ps, pc, p, op, b, i);
         }
         let word = b % 2 == 1;
         let v = fetch::code_immediate(ram, rom, ps, pc, word, i);

@@ -71,10 +71,10 @@ fn codes60(ram: &[u8], rom: &[u8], ps: u16, pc: u16, p: Prefixes, b: u8, i: u16)
     ensures { λ r. ⌜ Names (bytes40 p) b (codeByte (now (ram .entry)) (now (rom .entry)) ps pc) i r ⌝ }
 {
     if 0x6e <= b {
-        return places::block(p, Primitive::Outm, b - 0x6e, i);
+        return places::block(p, Primitive::Outm, b, i);
     }
     if 0x6c <= b {
-        return places::block(p, Primitive::Inm, b - 0x6c, i);
+        return places::block(p, Primitive::Inm, b, i);
     }
     if b < 0x62 {
         let group = if b == 0x60 { Stack::PushR } else { Stack::PopR };
@@ -129,7 +129,7 @@ pub fn codes40(ram: &[u8], rom: &[u8], ps: u16, pc: u16, p: Prefixes, b: u8, i: 
     }
     answers::tests(
         Conditional::If {
-            condition: b - 0x70,
+            condition: b % 16,
             disp: fetch::code_short(ram, rom, ps, pc, i),
         },
         i + 1,

@@ -29,22 +29,22 @@ use Rattle.places.specs.Operands.{Operands}
 use Rattle.places.proofs.OperandsLaws.{with-place}
 
 module _ {src : ℕ → ℕ} {i : ℕ} where
-  pub small-word : (n v : ℕ) → n ≡ 1 → Reads ℕ word src i v (i + 2) → Takes ℕ (smallImmediate n) src i v (i + 2) 2
+  pub small-word : (b v : ℕ) → b ≡ 0x81 → Reads ℕ word src i v (i + 2) → Takes ℕ (smallImmediate b) src i v (i + 2) 2
   unfolding smallImmediate
-  small-word n v e x = record { reads = read-true _ _ (eq-eqb n 1 e) x; most = omega arith }
+  small-word b v e x = record { reads = read-true _ _ (eq-eqb b 0x81 e) x; most = omega arith }
 
-  pub small-signed : (n v : ℕ) → (n ≡ 1 → ⊥) → n ≡ 3 → Reads ℕ signedByte src i v (i + 1) → Takes ℕ (smallImmediate n) src i v (i + 1) 2
+  pub small-signed : (b v : ℕ) → (b ≡ 0x81 → ⊥) → b ≡ 0x83 → Reads ℕ signedByte src i v (i + 1) → Takes ℕ (smallImmediate b) src i v (i + 1) 2
   unfolding smallImmediate
-  small-signed n v f e x = record { reads = read-false _ _ (ne-eqb n 1 f) (read-true _ _ (eq-eqb n 3 e) x); most = omega arith }
+  small-signed b v f e x = record { reads = read-false _ _ (ne-eqb b 0x81 f) (read-true _ _ (eq-eqb b 0x83 e) x); most = omega arith }
 
-  pub small-byte : (n v : ℕ) → (n ≡ 1 → ⊥) → (n ≡ 3 → ⊥) → Reads ℕ byte src i v (i + 1) → Takes ℕ (smallImmediate n) src i v (i + 1) 2
+  pub small-byte : (b v : ℕ) → (b ≡ 0x81 → ⊥) → (b ≡ 0x83 → ⊥) → Reads ℕ byte src i v (i + 1) → Takes ℕ (smallImmediate b) src i v (i + 1) 2
   unfolding smallImmediate
-  small-byte n v f e x = record { reads = read-false _ _ (ne-eqb n 1 f) (read-false _ _ (ne-eqb n 3 e) x); most = omega arith }
+  small-byte b v f e x = record { reads = read-false _ _ (ne-eqb b 0x81 f) (read-false _ _ (ne-eqb b 0x83 e) x); most = omega arith }
 
 module _ {p : Prefixes} {src : ℕ → ℕ} {i reg j : ℕ} {a : Place} (o : Operands p src i reg a j) {r : Decoded} where
-  pub with-immediate : (n v k : ℕ) (op : Operation) → op ≡ operationAt reg → Takes ℕ (smallImmediate n) src j v k 2 → r ≡ Known (Calculates (Two op (W n) a (Immediate v))) k → Decodes (withImmediate p n) src i r
+  pub with-immediate : (b v k : ℕ) (op : Operation) → op ≡ operationAt reg → Takes ℕ (smallImmediate b) src j v k 2 → r ≡ Known (Calculates (Two op (W b) a (Immediate v))) k → Decodes (withImmediate p b) src i r
   unfolding withImmediate
-  with-immediate n v k op h x e = with-place o _ (decodes-seq _ (x .reads) (decodes-known (rw h at e)))
+  with-immediate b v k op h x e = with-place o _ (decodes-seq _ (x .reads) (decodes-known (rw h at e)))
 
   from-segment : reg < 4 → r ≡ Known (Transfers (FromSegment a reg)) j → Decodes (fromSegment p) src i r
   unfolding fromSegment

@@ -18,17 +18,17 @@ ghost use Rattle.sheet.specs.FirstByte.{smallImmediate, withImmediate, withMemo
 ghost use Rattle.answers.specs.Answer.{Takes, Decodes, Names};
 
 // The immediate of 80 to 83.
-fn small_immediate(ram: &[u8], rom: &[u8], ps: u16, pc: u16, n: u8, i: u16) -> NumberRead
+fn small_immediate(ram: &[u8], rom: &[u8], ps: u16, pc: u16, b: u8, i: u16) -> NumberRead
     requires { ⌜ i ≤ 8 ⌝ }
-    ensures { λ r. ⌜ Takes ℕ (smallImmediate n) (codeByte (now (ram .entry)) (now (rom .entry)) ps pc) i (r .value) (r .next) 2 ⌝ }
+    ensures { λ r. ⌜ Takes ℕ (smallImmediate b) (codeByte (now (ram .entry)) (now (rom .entry)) ps pc) i (r .value) (r .next) 2 ⌝ }
 {
-    if n == 1 {
+    if b == 0x81 {
         return NumberRead {
             value: fetch::code_word(ram, rom, ps, pc, i),
             next: i + 2,
         };
     }
-    if n == 3 {
+    if b == 0x83 {
         return NumberRead {
             value: fetch::code_short(ram, rom, ps, pc, i),
             next: i + 1,
@@ -40,18 +40,18 @@ fn small_immediate(ram: &[u8], rom: &[u8], ps: u16, pc: u16, n: u8, i: u16) -> N
     }
 }
 
-fn with_immediate(ram: &[u8], rom: &[u8], ps: u16, pc: u16, p: Prefixes, n: u8, i: u16) -> Decoded
+fn with_immediate(ram: &[u8], rom: &[u8], ps: u16, pc: u16, p: Prefixes, b: u8, i: u16) -> Decoded
     requires { ⌜ i ≤ 4 ⌝ }
-    ensures { λ r. ⌜ Decodes (withImmediate p n) (codeByte (now (ram .entry)) (now (rom .entry)) ps pc) i r ⌝ }
+    ensures { λ r. ⌜ Decodes (withImmediate p b) (codeByte (now (ram .entry)) (now (rom .entry)) ps pc) i r ⌝ }
 {
     let o = places::operands(ram, rom, ps, pc, p, i);
     let place = o.place;
     let op = places::operation_at(o.reg);
-    let v = small_immediate(ram, rom, ps, pc, n, o.next);
+    let v = small_immediate(ram, rom, ps, pc, b, o.next);
     answers::calculates(
         Arithmetic::Two {
             op: op,
-            word: n % 2 == 1,
+            word: b % 2 == 1,
             to: place,
             from: Source::Immediate(v.value),
         },
@@ -168,7 +168,7 @@ pub fn codes80(ram: &[u8], rom: &[u8], ps: u16, pc: u16, p: Prefixes, b: u8, i: 
     ensures { λ r. ⌜ Names (bytes80 p) b (codeByte (now (ram .entry)) (now (rom .entry)) ps pc) i r ⌝ }
 {
     if b < 0x84 {
-        return with_immediate(ram, rom, ps, pc, p, b - 0x80, i);
+        return with_immediate(ram, rom, ps, pc, p, b, i);
     }
     if b < 0x8c {
         return two_places(ram, rom, ps, pc, p, b, i);

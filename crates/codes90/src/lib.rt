@@ -138,7 +138,7 @@ pub fn codes90(ram: &[u8], rom: &[u8], ps: u16, pc: u16, p: Prefixes, b: u8, i: 
         return answers::transfers(
             Transfer::Xch {
                 word: true,
-                reg: b - 0x90,
+                reg: b % 8,
                 with: Place::Register(ACC),
             },
             i,

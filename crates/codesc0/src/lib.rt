@@ -22,9 +22,9 @@ const DS1: u8 = 0;
 const DS0: u8 = 3;
 
 // C0 and C1: the count follows.
-fn shift_given(ram: &[u8], rom: &[u8], ps: u16, pc: u16, p: Prefixes, n: u8, i: u16) -> Decoded
+fn shift_given(ram: &[u8], rom: &[u8], ps: u16, pc: u16, p: Prefixes, b: u8, i: u16) -> Decoded
     requires { ⌜ i ≤ 4 ⌝ }
-    ensures { λ r. ⌜ Decodes (shiftGroup p withCounted n) (codeByte (now (ram .entry)) (now (rom .entry)) ps pc) i r ⌝ }
+    ensures { λ r. ⌜ Decodes (shiftGroup p withCounted b) (codeByte (now (ram .entry)) (now (rom .entry)) ps pc) i r ⌝ }
 {
     let o = places::operands(ram, rom, ps, pc, p, i);
     let place = o.place;
@@ -35,7 +35,7 @@ fn shift_given(ram: &[u8], rom: &[u8], ps: u16, pc: u16, p: Prefixes, n: u8, i: 
     let count = fetch::code_byte(ram, rom, ps, pc, o.next);
     answers::shifts(
         kind,
-        n % 2 == 1,
+        b % 2 == 1,
         place,
         Places::Counted(Amount::Given(count)),
         o.next + 1,
@@ -84,7 +84,7 @@ fn move_immediate(ram: &[u8], rom: &[u8], ps: u16, pc: u16, p: Prefixes, b: u8, 
 {
     let o = places::operands(ram, rom, ps, pc, p, i);
     let place = o.place;
-    let word = (b - 0xc6) % 2 == 1;
+    let word = b % 2 == 1;
     let v = fetch::code_immediate(ram, rom, ps, pc, word, o.next);
     if o.reg == 0 {
         return answers::transfers(
@@ -145,7 +145,7 @@ pub fn codesc0(ram: &[u8], rom: &[u8], ps: u16, pc: u16, p: Prefixes, b: u8, i: 
     ensures { λ r. ⌜ Names (bytesC0 p) b (codeByte (now (ram .entry)) (now (rom .entry)) ps pc) i r ⌝ }
 {
     if b < 0xc2 {
-        return shift_given(ram, rom, ps, pc, p, b - 0xc0, i);
+        return shift_given(ram, rom, ps, pc, p, b, i);
     }
     if b < 0xc6 {
         return codesc2(ram, rom, ps, pc, p, b, i);

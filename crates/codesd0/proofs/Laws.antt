@@ -6,23 +6,17 @@ use native.Mathlib.Omega.{arith}
 use lib.Dec.{eqb}
 use borrow.Author.Tests.{eq-eqb, ne-eqb, eqb-true, eqb-false}
 use Rattle.sheet.specs.declared.Convert.{Convert}
-use Rattle.sheet.specs.declared.Places.{Places}
 use Rattle.sheet.specs.declared.Prefixes.{Prefixes}
 use Rattle.sheet.specs.Groups.{Converts}
-use Rattle.sheet.specs.Reading.{Reading, byte}
-use Rattle.sheet.specs.FirstByte.{shiftGroup, afterTen, bytesC0}
+use Rattle.sheet.specs.Reading.{byte}
+use Rattle.sheet.specs.FirstByte.{afterTen, bytesC0}
 use Rattle.sheet.specs.Contract.{Reads}
 use Rattle.answers.specs.declared.Decoded.{Decoded}
 use Rattle.answers.specs.declared.Decoded.the-variants.{Known, Unknown}
 use Rattle.answers.specs.Answer.{Decodes, Names}
 use Rattle.answers.proofs.DecodesLaws.{decodes-seq, decodes-allowed, decodes-barred}
-use Rattle.answers.proofs.CodeLaws.{low-bit, at-one}
+use Rattle.answers.proofs.CodeLaws.{at-one}
 use Rattle.answers.proofs.FollowLaws.{decodes-known}
-
--- the width is bit 0 of the code: n is the row's first code
-pub by-width : (p : Prefixes) (k : Reading Places) (n b : ℕ) {src : ℕ → ℕ} {i : ℕ} {r : Decoded} → n ≤ b → n % 2 ≡ 0 → Decodes (shiftGroup p k b) src i r → Decodes (shiftGroup p k (b - n)) src i r
-unfolding shiftGroup
-by-width p k n b h e x = rw (low-bit n b h e) at x
 
 module _ {src : ℕ → ℕ} {i j t : ℕ} (x : Reads ℕ byte src i t j) where
   pub ten-follows : (c : Convert) {r : Decoded} → t ≡ 0x0a → r ≡ Known (Converts c) j → Decodes (afterTen c) src i r

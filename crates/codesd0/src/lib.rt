@@ -22,11 +22,11 @@ fn shift_fixed(
     pc: u16,
     p: Prefixes,
     places: Places,
-    n: u8,
+    b: u8,
     i: u16,
 ) -> Decoded
     requires { ⌜ i ≤ 4 ⌝ }
-    ensures { λ r. ⌜ Decodes (shiftGroup p (got places) n) (codeByte (now (ram .entry)) (now (rom .entry)) ps pc) i r ⌝ }
+    ensures { λ r. ⌜ Decodes (shiftGroup p (got places) b) (codeByte (now (ram .entry)) (now (rom .entry)) ps pc) i r ⌝ }
 {
     let o = places::operands(ram, rom, ps, pc, p, i);
     let place = o.place;
@@ -34,7 +34,7 @@ fn shift_fixed(
         return Decoded::Unknown { number: 3 };
     }
     let kind = places::shift_at(o.reg);
-    answers::shifts(kind, n % 2 == 1, place, places, o.next)
+    answers::shifts(kind, b % 2 == 1, place, places, o.next)
 }
 
 pub fn codesd0(ram: &[u8], rom: &[u8], ps: u16, pc: u16, p: Prefixes, b: u8, i: u16) -> Decoded

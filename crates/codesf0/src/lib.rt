@@ -19,13 +19,13 @@ ghost use Rattle.sheet.specs.FirstByte.{groupF6, groupFE, groupFF, bytesC0};
 ghost use Rattle.answers.specs.Answer.{Decodes, Names};
 ghost use Rattle.codesf0.specs.Memory.{memoryOnly};
 
-fn group_f6(ram: &[u8], rom: &[u8], ps: u16, pc: u16, p: Prefixes, n: u8, i: u16) -> Decoded
+fn group_f6(ram: &[u8], rom: &[u8], ps: u16, pc: u16, p: Prefixes, b: u8, i: u16) -> Decoded
     requires { ⌜ i ≤ 4 ⌝ }
-    ensures { λ r. ⌜ Decodes (groupF6 p n) (codeByte (now (ram .entry)) (now (rom .entry)) ps pc) i r ⌝ }
+    ensures { λ r. ⌜ Decodes (groupF6 p b) (codeByte (now (ram .entry)) (now (rom .entry)) ps pc) i r ⌝ }
 {
     let o = places::operands(ram, rom, ps, pc, p, i);
     let place = o.place;
-    let word = n % 2 == 1;
+    let word = b % 2 == 1;
     let reg = o.reg;
     if reg == 0 {
         let v = fetch::code_immediate(ram, rom, ps, pc, word, o.next);
@@ -129,7 +129,7 @@ pub fn codesf0(ram: &[u8], rom: &[u8], ps: u16, pc: u16, p: Prefixes, b: u8, i: 
         return Decoded::Unknown { number: 3 };
     }
     if b / 2 == 0x7b {
-        return group_f6(ram, rom, ps, pc, p, b - 0xf6, i);
+        return group_f6(ram, rom, ps, pc, p, b, i);
     }
     if 0xfe <= b {
         return group_fe(ram, rom, ps, pc, p, b == 0xff, i);

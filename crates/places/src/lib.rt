@@ -71,13 +71,13 @@ pub fn direct(p: Prefixes, offset: u16) -> Address
 }
 
 // A block instruction, whose source obeys the prefixes.
-pub fn block(p: Prefixes, primitive: Primitive, n: u8, i: u16) -> Decoded
-    ensures { λ r. ⌜ r ≡ Known (Blocks primitive (W n) (segOr (p .seg) inDs0) (p .repeat)) i ⌝ }
+pub fn block(p: Prefixes, primitive: Primitive, b: u8, i: u16) -> Decoded
+    ensures { λ r. ⌜ r ≡ Known (Blocks primitive (W b) (segOr (p .seg) inDs0) (p .repeat)) i ⌝ }
 {
     let seg = p.seg;
     let repeat = p.repeat;
     let source = seg_or(seg, DS0);
-    answers::blocks(primitive, n % 2 == 1, source, repeat, i)
+    answers::blocks(primitive, b % 2 == 1, source, repeat, i)
 }
 
 // The operations and the shifts, as a reg field names them; no shift has the number 6.

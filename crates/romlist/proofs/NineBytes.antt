@@ -73,13 +73,13 @@ of-secondBytes p =
 
 -- ---- at most five bytes behind a first byte
 
-of-smallImmediate : {m : ℕ} (n : ℕ) → Room (suc (suc m)) m (smallImmediate n)
+of-smallImmediate : {m : ℕ} (b : ℕ) → Room (suc (suc m)) m (smallImmediate b)
 unfolding smallImmediate
-of-smallImmediate n = either (eqb n 1) of-word (either (eqb n 3) (spare of-signedByte) (spare of-byte))
+of-smallImmediate b = either (eqb b 0x81) of-word (either (eqb b 0x83) (spare of-signedByte) (spare of-byte))
 
-of-withImmediate : (p : Prefixes) (n : ℕ) → Short 5 (withImmediate p n)
+of-withImmediate : (p : Prefixes) (b : ℕ) → Short 5 (withImmediate p b)
 unfolding withImmediate
-of-withImmediate p n = of-withPlace p _ λ reg a. into _ (of-smallImmediate n)
+of-withImmediate p b = of-withPlace p _ λ reg a. into _ (of-smallImmediate b)
 
 of-withShift : {n : ℕ} (o : Option Shift) (k : Shift → Reading Instr) → ((s : Shift) → Short n (k s)) → Short n (withShift o k)
 unfolding withShift

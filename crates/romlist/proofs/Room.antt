@@ -146,7 +146,7 @@ infixr 30 _also_
 pub of-lookUp : {n : ℕ} (t : List Row) → Rows n t → (b : ℕ) → Short n (lookUp t b)
 unfolding lookUp
 of-lookUp [] none-more b = stop
-of-lookUp (r ∷ t) (x also y) b = either (covers r b) (x (b - r .from)) (of-lookUp t y b)
+of-lookUp (r ∷ t) (x also y) b = either (covers r b) (x b) (of-lookUp t y b)
 
 pub both : {n : ℕ} {s t : List Row} → Rows n s → Rows n t → Rows n (s ++ t)
 both none-more y = y

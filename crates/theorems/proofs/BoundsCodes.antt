@@ -64,13 +64,13 @@ of-secondBytes p =
 
 -- ---- groups behind a first byte
 
-of-smallImmediate : (n : ℕ) → Leaf Any (smallImmediate n)
+of-smallImmediate : (b : ℕ) → Leaf Any (smallImmediate b)
 unfolding smallImmediate
-of-smallImmediate n = either (eqb n 1) of-word (either (eqb n 3) of-signedByte any-byte)
+of-smallImmediate b = either (eqb b 0x81) of-word (either (eqb b 0x83) of-signedByte any-byte)
 
-of-withImmediate : (p : Prefixes) (n : ℕ) → Leaf Fine (withImmediate p n)
+of-withImmediate : (p : Prefixes) (b : ℕ) → Leaf Fine (withImmediate p b)
 unfolding withImmediate
-of-withImmediate p n = of-withPlace p _ λ reg a. into _ (of-smallImmediate n) λ v. ok
+of-withImmediate p b = of-withPlace p _ λ reg a. into _ (of-smallImmediate b) λ v. ok
 
 of-withShift : (o : Option Shift) (k : Shift → Reading Instr) → ((s : Shift) → Leaf Fine (k s)) → Leaf Fine (withShift o k)
 unfolding withShift

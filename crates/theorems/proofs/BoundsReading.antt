@@ -194,7 +194,7 @@ infixr 30 _also_
 pub of-lookUp : (t : List Row) → Rows t → (b : ℕ) → Leaf Fine (lookUp t b)
 unfolding lookUp
 of-lookUp [] none-more b = unknown-code
-of-lookUp (r ∷ t) (x also y) b = either (covers r b) (x (b - r .from)) (of-lookUp t y b)
+of-lookUp (r ∷ t) (x also y) b = either (covers r b) (x b) (of-lookUp t y b)
 
 pub both : {s t : List Row} → Rows s → Rows t → Rows (s ++ t)
 both none-more y = y

@@ -1,5 +1,5 @@
 use native.Mathlib.Omega.{arith}
-use Rattle.answers.proofs.CodeLaws.{low-bits, at-row}
+use Rattle.answers.proofs.CodeLaws.{at-row}
 use Rattle.answers.proofs.FollowLaws.{decodes-known, with-short}
 use mathlib.Core.Path.{refl}
 use mathlib.Core.Logic.{⊎-elim}
@@ -8,10 +8,10 @@ use Rattle.codes40.proofs.codes40.Statement.{statement}
 use Rattle.codes40.proofs.codes40.Tie as tie
 
 returns : tie.Need-returns
-returns c = ⊎-elim (λ w. at-row 0x40 refl (search needs) (omega arith) (decodes-known (rw (w .1, low-bits 0x40 (c .before .before .before .before .before .args .b) (search needs) (omega arith) refl) at (c .calculates .ensures)))) (λ w. at-row 0x48 refl (omega arith) (omega arith) (decodes-known (rw (w .1, low-bits 0x48 (c .before .before .before .before .before .args .b) (omega arith) (omega arith) refl) at (c .calculates .ensures)))) (c .before .if2 .came)
+returns c = ⊎-elim (λ w. at-row 0x40 refl (search needs) (omega arith) (decodes-known (rw (w .1) at (c .calculates .ensures)))) (λ w. at-row 0x48 refl (omega arith) (omega arith) (decodes-known (rw (w .1) at (c .calculates .ensures)))) (c .before .if2 .came)
 
 returns-2 : tie.Need-returns-2
-returns-2 c = ⊎-elim (λ w. at-row 0x50 refl (search needs) (omega arith) (decodes-known (rw (w .1, low-bits 0x50 (c .before .before .before .before .before .before .args .b) (search needs) (omega arith) refl) at (c .stacks .ensures)))) (λ w. at-row 0x58 refl (omega arith) (omega arith) (decodes-known (rw (w .1, low-bits 0x58 (c .before .before .before .before .before .before .args .b) (omega arith) (omega arith) refl) at (c .stacks .ensures)))) (c .before .if4 .came)
+returns-2 c = ⊎-elim (λ w. at-row 0x50 refl (search needs) (omega arith) (decodes-known (rw (w .1) at (c .stacks .ensures)))) (λ w. at-row 0x58 refl (omega arith) (omega arith) (decodes-known (rw (w .1) at (c .stacks .ensures)))) (c .before .if4 .came)
 
 returns-4 : tie.Need-returns-4
 returns-4 c = at-row 0x70 refl (search needs) (search needs) (with-short _ (c .before .code-short .ensures) (c .tests .ensures))

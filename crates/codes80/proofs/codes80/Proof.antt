@@ -21,7 +21,6 @@ pub codes80-spec : {M : Type 1} → statement M
 codes80-spec =
     tie.close
     (tie.spec
-    (λ c. search needs)
     (λ c κs. search needs)
     returns
     (λ c κs. search needs)

@@ -1,5 +1,5 @@
 use native.Mathlib.Omega.{arith}
-use Rattle.answers.proofs.CodeLaws.{at-row, low-bit}
+use Rattle.answers.proofs.CodeLaws.{at-row}
 use Rattle.answers.proofs.FollowLaws.{decodes-known}
 use mathlib.Core.Path.{refl}
 use Rattle.places.proofs.OperandsLaws.{with-place}
@@ -9,10 +9,10 @@ use Rattle.codes80.proofs.two_places.Statement.{statement}
 use Rattle.codes80.proofs.two_places.Tie as tie
 
 returns : tie.Need-returns
-returns c = at-row 0x84 refl (search needs) (search needs) (with-place (c .before .before .operands .ensures) _ (decodes-known (rw (low-bit 0x84 (c .before .before .before .before .before .args .b) (search needs) refl) at (c .calculates .ensures))))
+returns c = at-row 0x84 refl (search needs) (search needs) (with-place (c .before .before .operands .ensures) _ (decodes-known (c .calculates .ensures)))
 
 returns-2 : tie.Need-returns-2
-returns-2 c = ⊎-elim (λ w. at-row 0x86 refl (omega arith) (omega arith) (with-place (c .before .before .before .operands .ensures) _ (decodes-known (rw (w .1, low-bit 0x86 (c .before .before .before .before .before .before .args .b) (omega arith) refl) at (c .transfers .ensures))))) (⊎-elim (λ w. at-row 0x88 refl (omega arith) (omega arith) (with-place (c .before .before .before .operands .ensures) _ (decodes-known (rw (w .1, low-bit 0x88 (c .before .before .before .before .before .before .args .b) (omega arith) refl) at (c .transfers .ensures))))) (λ w. at-row 0x8a refl (omega arith) (omega arith) (with-place (c .before .before .before .operands .ensures) _ (decodes-known (rw (w .1, low-bit 0x8a (c .before .before .before .before .before .before .args .b) (omega arith) refl) at (c .transfers .ensures)))))) (c .before .match .came)
+returns-2 c = ⊎-elim (λ w. at-row 0x86 refl (omega arith) (omega arith) (with-place (c .before .before .before .operands .ensures) _ (decodes-known (rw (w .1) at (c .transfers .ensures))))) (⊎-elim (λ w. at-row 0x88 refl (omega arith) (omega arith) (with-place (c .before .before .before .operands .ensures) _ (decodes-known (rw (w .1) at (c .transfers .ensures))))) (λ w. at-row 0x8a refl (omega arith) (omega arith) (with-place (c .before .before .before .operands .ensures) _ (decodes-known (rw (w .1) at (c .transfers .ensures)))))) (c .before .match .came)
 
 pub two-places-spec : {M : Type 1} → statement M
 two-places-spec =

@@ -18,7 +18,6 @@ codes90-spec =
     (tie.spec
     (λ c κs. search needs)
     returns
-    (λ c. search needs)
     (λ c κs. search needs)
     returns-2
     (λ c κs. search needs)

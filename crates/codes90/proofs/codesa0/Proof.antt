@@ -11,7 +11,7 @@ returns-2 : tie.Need-returns-2
 returns-2 c = test-acc _ (omega arith) (omega arith) (c .before .code-immediate .ensures) (c .calculates .ensures)
 
 returns-3 : tie.Need-returns-3
-returns-3 c = ⊎-elim (λ w. at-row 0xa4 refl (omega arith) (omega arith) (of-block (c .before .before .before .before .before .before .args .b) 0xa4 (w .1) (omega arith) refl (c .block .ensures))) (⊎-elim (λ w. at-row 0xa6 refl (omega arith) (omega arith) (of-block (c .before .before .before .before .before .before .args .b) 0xa6 (w .1) (omega arith) refl (c .block .ensures))) (⊎-elim (λ w. at-row 0xaa refl (omega arith) (omega arith) (of-block (c .before .before .before .before .before .before .args .b) 0xaa (w .1) (omega arith) refl (c .block .ensures))) (⊎-elim (λ w. at-row 0xac refl (omega arith) (omega arith) (of-block (c .before .before .before .before .before .before .args .b) 0xac (w .1) (omega arith) refl (c .block .ensures))) (λ w. at-row 0xae refl (omega arith) (search needs) (of-block (c .before .before .before .before .before .before .args .b) 0xae (w .1) (omega arith) refl (c .block .ensures)))))) (c .before .match .came)
+returns-3 c = ⊎-elim (λ w. at-row 0xa4 refl (omega arith) (omega arith) (of-block (c .before .before .before .before .before .before .args .b) (w .1) (c .block .ensures))) (⊎-elim (λ w. at-row 0xa6 refl (omega arith) (omega arith) (of-block (c .before .before .before .before .before .before .args .b) (w .1) (c .block .ensures))) (⊎-elim (λ w. at-row 0xaa refl (omega arith) (omega arith) (of-block (c .before .before .before .before .before .before .args .b) (w .1) (c .block .ensures))) (⊎-elim (λ w. at-row 0xac refl (omega arith) (omega arith) (of-block (c .before .before .before .before .before .before .args .b) (w .1) (c .block .ensures))) (λ w. at-row 0xae refl (omega arith) (search needs) (of-block (c .before .before .before .before .before .before .args .b) (w .1) (c .block .ensures)))))) (c .before .match .came)
 
 pub codesa0-spec : {M : Type 1} → statement M
 codesa0-spec =

@@ -11,7 +11,6 @@ pub codesc0-spec : {M : Type 1} → statement M
 codesc0-spec =
     tie.close
     (tie.spec
-    (λ c. search needs)
     (λ c κs. search needs)
     returns
     (λ c κs. search needs)

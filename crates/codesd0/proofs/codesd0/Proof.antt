@@ -1,7 +1,7 @@
 use mathlib.Core.List.{[], _∷_}
 use native.Mathlib.Omega.{arith}
 use Rattle.answers.proofs.CodeLaws.{at-one, at-rest, at-row}
-use Rattle.codesd0.proofs.Laws.{by-width, no-ten-at, ten-follows}
+use Rattle.codesd0.proofs.Laws.{no-ten-at, ten-follows}
 use Rattle.answers.proofs.FollowLaws.{decodes-known}
 use mathlib.Core.Path.{refl}
 use mathlib.Core.Logic.{⊎-elim}
@@ -10,7 +10,7 @@ use Rattle.codesd0.proofs.codesd0.Statement.{statement}
 use Rattle.codesd0.proofs.codesd0.Tie as tie
 
 returns : tie.Need-returns
-returns c = ⊎-elim (λ w. at-row 0xd0 refl (search needs) (search needs) (by-width _ _ 0xd0 _ (search needs) refl (rw (w .1) at (c .shift-fixed .ensures)))) (λ w. at-row 0xd2 refl (search needs) (search needs) (by-width _ _ 0xd2 _ (search needs) refl (rw (w .1) at (c .shift-fixed .ensures)))) (c .before .if2 .came)
+returns c = ⊎-elim (λ w. at-row 0xd0 refl (search needs) (search needs) (rw (w .1) at (c .shift-fixed .ensures))) (λ w. at-row 0xd2 refl (search needs) (search needs) (rw (w .1) at (c .shift-fixed .ensures))) (c .before .if2 .came)
 
 returns-2 : tie.Need-returns-2
 returns-2 c = no-ten-at (c .before .code-byte .ensures) _ (search needs) (search needs) (search needs)

@@ -1,5 +1,5 @@
 use native.Mathlib.Omega.{arith}
-use Rattle.answers.proofs.CodeLaws.{at-row, low-bit}
+use Rattle.answers.proofs.CodeLaws.{at-row}
 use Rattle.answers.proofs.FollowLaws.{decodes-known}
 use mathlib.Core.Path.{refl}
 use mathlib.Core.Logic.{⊎-elim}
@@ -8,7 +8,7 @@ use Rattle.codese0.proofs.codese0.Statement.{statement}
 use Rattle.codese0.proofs.codese0.Tie as tie
 
 returns-4 : tie.Need-returns-4
-returns-4 c = ⊎-elim (λ w. at-row 0xec refl (search needs) (omega arith) (decodes-known (rw (w .1, low-bit 0xec (c .before .before .before .before .before .before .before .args .b) (search needs) refl) at (c .ports .ensures)))) (λ w. at-row 0xee refl (omega arith) (omega arith) (decodes-known (rw (w .1, low-bit 0xee (c .before .before .before .before .before .before .before .args .b) (omega arith) refl) at (c .ports .ensures)))) (c .before .if4 .came)
+returns-4 c = ⊎-elim (λ w. at-row 0xec refl (search needs) (omega arith) (decodes-known (rw (w .1) at (c .ports .ensures)))) (λ w. at-row 0xee refl (omega arith) (omega arith) (decodes-known (rw (w .1) at (c .ports .ensures)))) (c .before .if4 .came)
 
 pub codese0-spec : {M : Type 1} → statement M
 codese0-spec =

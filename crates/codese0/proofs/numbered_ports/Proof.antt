@@ -1,4 +1,4 @@
-use Rattle.answers.proofs.CodeLaws.{at-row, low-bit}
+use Rattle.answers.proofs.CodeLaws.{at-row}
 use mathlib.Core.Path.{refl}
 use Rattle.answers.proofs.FollowLaws.{with-byte}
 use mathlib.Core.Logic.{⊎-elim}
@@ -7,7 +7,7 @@ use Rattle.codese0.proofs.numbered_ports.Statement.{statement}
 use Rattle.codese0.proofs.numbered_ports.Tie as tie
 
 returns : tie.Need-returns
-returns c = ⊎-elim (λ w. at-row 0xe4 refl (search needs) (search needs) (with-byte _ (c .before .before .code-byte .ensures) (rw (w .1, low-bit 0xe4 (c .before .before .before .before .before .args .b) (search needs) refl) at (c .ports .ensures)))) (λ w. at-row 0xe6 refl (search needs) (search needs) (with-byte _ (c .before .before .code-byte .ensures) (rw (w .1, low-bit 0xe6 (c .before .before .before .before .before .args .b) (search needs) refl) at (c .ports .ensures)))) (c .before .if1 .came)
+returns c = ⊎-elim (λ w. at-row 0xe4 refl (search needs) (search needs) (with-byte _ (c .before .before .code-byte .ensures) (rw (w .1) at (c .ports .ensures)))) (λ w. at-row 0xe6 refl (search needs) (search needs) (with-byte _ (c .before .before .code-byte .ensures) (rw (w .1) at (c .ports .ensures)))) (c .before .if1 .came)
 
 pub numbered-ports-spec : {M : Type 1} → statement M
 numbered-ports-spec = tie.close (tie.spec (λ c κs. search needs) (λ c. search needs) (λ c κs. search needs) returns)

@@ -35,7 +35,6 @@ codesf0-spec =
     tie.close
     (tie.spec
     returns
-    (λ c. search needs)
     (λ c κs. search needs)
     returns-2
     (λ c κs. search needs)
