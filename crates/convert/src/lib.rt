@@ -5,35 +5,36 @@ ghost use Prim.Native.Nat.{_+_, _*_, _/_, _%_, _≤_};
 ghost use Rattle.sheet.specs.Width.{extend, pick, signOf};
 ghost use Rattle.sheet.specs.Psw.{AC, CY, flagOf};
 ghost use Rattle.sheet.specs.Contract.{flagged};
-ghost use Rattle.sheet.specs.Decimal.{packedResult, unpacked, unpackedResult};
+ghost use Rattle.sheet.specs.Adjust.{digitsOf, packedResult, unpacked, unpackedResult};
 ghost use Rattle.sheet.specs.Convert.{converted};
 use sheet::Flagged;
+use sheet::Way;
 
-// ADJ4A, and ADJ4S where `sub`, of AL.
-pub fn adj4(sub: bool, al: u16, psw: u16) -> Flagged
-    ensures { λ r. ⌜ r ≡ flagged (packedResult sub al (flagOf psw AC) (flagOf psw CY)) psw ⌝ }
+// ADJ4A or ADJ4S of AL.
+pub fn adj4(way: Way, al: u16, psw: u16) -> Flagged
+    ensures { λ r. ⌜ r ≡ flagged (packedResult way (digitsOf al (flagOf psw AC) (flagOf psw CY))) psw ⌝ }
 {
-    let d = decimal::adjusted(sub, al, flags::ac(psw), flags::cy(psw));
+    let d = decimal::adjusted(way, al, flags::ac(psw), flags::cy(psw));
     psw::result(false, d.value, d.ac, d.cy, flags::v(psw), psw)
 }
 
 // AW once a digit is adjusted.
-fn unpacked(sub: bool, low: bool, aw: u16) -> u16
-    ensures { λ r. ⌜ r ≡ unpacked sub low aw ⌝ }
+fn unpacked(way: Way, low: bool, aw: u16) -> u16
+    ensures { λ r. ⌜ r ≡ unpacked way low aw ⌝ }
 {
-    let high = decimal::plain(sub, aw / 256, word::digit(low), false);
-    let digits = decimal::plain(sub, aw % 256, word::only(low, 6), false);
+    let high = decimal::plain(way, aw / 256, word::digit(low), false);
+    let digits = decimal::plain(way, aw % 256, word::only(low, 6), false);
     high.value * 256 + digits.value % 16
 }
 
-// ADJBA, and ADJBS where `sub`, of AW.
-pub fn adjb(sub: bool, aw: u16, psw: u16) -> Flagged
-    ensures { λ r. ⌜ r ≡ flagged (unpackedResult sub aw (flagOf psw AC)) psw ⌝ }
+// ADJBA or ADJBS of AW.
+pub fn adjb(way: Way, aw: u16, psw: u16) -> Flagged
+    ensures { λ r. ⌜ r ≡ flagged (unpackedResult way aw (flagOf psw AC)) psw ⌝ }
 {
     let low = (9 < aw % 16) | flags::ac(psw);
     let f = flags::unpack(psw);
     Flagged {
-        value: unpacked(sub, low, aw),
+        value: unpacked(way, low, aw),
         psw: psw::affect(low, low, f.v, f.p, f.s, f.z, psw),
     }
 }

@@ -8,12 +8,11 @@ use lib.Dec.{ltb, leb, lit≤}
 use Rattle.sheet.specs.declared.Digits.{Digits}
 use Rattle.sheet.specs.Width.{wrapOf, pick}
 use Rattle.sheet.specs.Psw.{bit}
-use Rattle.sheet.specs.Decimal.{adjusted, digits, moved, plain}
+use Rattle.sheet.specs.declared.Way.{Way}
+use Rattle.sheet.specs.declared.Way.the-variants.{Addition, Subtraction}
+use Rattle.sheet.specs.Adjust.{plain, moved, digitsOf, lowAdjusted, highAdjusted, adjusted}
+use Rattle.sheet.specs.Decimal.{digits}
 use Rattle.sheet.proofs.PswLaws.{bit-le}
-
--- a byte with AC and CY
-abbrev pub byteOf : ℕ → Bool → Bool → Digits
-byteOf x ac cy = record { value = x; ac = ac; cy = cy }
 
 -- a number below 100 as two digits
 abbrev pub packed : ℕ → ℕ
@@ -25,36 +24,36 @@ or-true false = refl
 
 -- ---- an adjustment, by the tests of its two steps
 
-adjusted-by : (sub : Bool) (x : ℕ) (ac cy low high : Bool) → (ltb 9 (x % 16) || ac) ≡ low
-    → (ltb 0x9f (moved sub x (pick low 6 0) .value) || (cy || moved sub x (pick low 6 0) .cy)) ≡ high
-    → adjusted sub x ac cy ≡ byteOf (moved sub (moved sub x (pick low 6 0) .value) (pick high 0x60 0) .value) low high
-unfolding adjusted
-adjusted-by sub x ac cy low high e f = rw (e, f)
+adjusted-by : (way : Way) (x : ℕ) (ac cy low high : Bool) → (ltb 9 (x % 16) || ac) ≡ low
+    → (ltb 0x9f (moved way x (pick low 6 0) .value) || (cy || moved way x (pick low 6 0) .cy)) ≡ high
+    → adjusted way (digitsOf x ac cy) ≡ digitsOf (moved way (moved way x (pick low 6 0) .value) (pick high 0x60 0) .value) low high
+unfolding lowAdjusted highAdjusted adjusted
+adjusted-by way x ac cy low high e f = rw (e, f)
 
-made : {x y : ℕ} {ac cy : Bool} → x ≡ y → byteOf x ac cy ≡ byteOf y ac cy
-made {ac = ac} {cy = cy} e = ap (λ (z : ℕ). byteOf z ac cy) e
+made : {x y : ℕ} {ac cy : Bool} → x ≡ y → digitsOf x ac cy ≡ digitsOf y ac cy
+made {ac = ac} {cy = cy} e = ap (λ (z : ℕ). digitsOf z ac cy) e
 
 -- ---- subtraction: 6 and 60h are taken away where a column borrowed
 
-borrow-adjusted : (x r0 : ℕ) (p q : Bool) → r0 ≤ 9 → x ≤ 9 → adjusted true (x * 16 + r0 + 6 * bit p + 96 * bit q) p q ≡ byteOf (x * 16 + r0) p q
+borrow-adjusted : (x r0 : ℕ) (p q : Bool) → r0 ≤ 9 → x ≤ 9 → adjusted Subtraction (digitsOf (x * 16 + r0 + 6 * bit p + 96 * bit q) p q) ≡ digitsOf (x * 16 + r0) p q
 unfolding plain wrapOf
 borrow-adjusted x r0 false false h k =
     let v = x * 16 + r0 + 6 * 0 + 96 * 0 in
-    adjusted-by true v false false false false (rw (le-ltb 9 (v % 16) (omega arith)))
+    adjusted-by Subtraction v false false false false (rw (le-ltb 9 (v % 16) (omega arith)))
     (rw (le-ltb 159 ((131072 + v - 0) % 256) (omega arith), le-ltb v 0 (omega arith)))
     ∙ made (omega arith)
 borrow-adjusted x r0 true false h k =
     let v = x * 16 + r0 + 6 * 1 + 96 * 0 in
-    adjusted-by true v true false true false (or-true (ltb 9 (v % 16)))
+    adjusted-by Subtraction v true false true false (or-true (ltb 9 (v % 16)))
     (rw (le-ltb 159 ((131072 + v - 6) % 256) (omega arith), le-ltb v 6 (omega arith)))
     ∙ made (omega arith)
 borrow-adjusted x r0 false true h k =
     let v = x * 16 + r0 + 6 * 0 + 96 * 1 in
-    adjusted-by true v false true false true (rw (le-ltb 9 (v % 16) (omega arith))) (or-true (ltb 159 ((131072 + v - 0) % 256)))
+    adjusted-by Subtraction v false true false true (rw (le-ltb 9 (v % 16) (omega arith))) (or-true (ltb 159 ((131072 + v - 0) % 256)))
     ∙ made (omega arith)
 borrow-adjusted x r0 true true h k =
     let v = x * 16 + r0 + 6 * 1 + 96 * 1 in
-    adjusted-by true v true true true true (or-true (ltb 9 (v % 16))) (or-true (ltb 159 ((131072 + v - 6) % 256)))
+    adjusted-by Subtraction v true true true true (or-true (ltb 9 (v % 16))) (or-true (ltb 159 ((131072 + v - 6) % 256)))
     ∙ made (omega arith)
 
 -- ---- addition: 6 and 60h are added where a column exceeds 9
@@ -84,23 +83,23 @@ exceeds s x h l = go (leb 16 x) refl
     go false e = let y = leb-false 16 x e in rw (lt-ltb 9 ((s * 16 + x) % 256 % 16) (omega arith))
 
 carry-adjusted : (s r1 r0 : ℕ) (p q : Bool) → r1 ≤ 9 → r0 ≤ 9 → s + bit p ≡ r1 + 10 * bit q
-    → adjusted false ((s * 16 + (r0 + 10 * bit p)) % 256) (leb 16 (r0 + 10 * bit p)) (leb 256 (s * 16 + (r0 + 10 * bit p))) ≡ byteOf (r1 * 16 + r0) p q
+    → adjusted Addition (digitsOf ((s * 16 + (r0 + 10 * bit p)) % 256) (leb 16 (r0 + 10 * bit p)) (leb 256 (s * 16 + (r0 + 10 * bit p)))) ≡ digitsOf (r1 * 16 + r0) p q
 unfolding plain wrapOf
 carry-adjusted s r1 r0 false false k1 k0 e =
     let t = s * 16 + (r0 + 0) in
-    adjusted-by false (t % 256) (leb 16 (r0 + 0)) (leb 256 t) false false (rw (le-ltb 9 (t % 256 % 16) (omega arith), lt-leb 16 (r0 + 0) (omega arith))) (under t 0 (omega arith))
+    adjusted-by Addition (t % 256) (leb 16 (r0 + 0)) (leb 256 t) false false (rw (le-ltb 9 (t % 256 % 16) (omega arith), lt-leb 16 (r0 + 0) (omega arith))) (under t 0 (omega arith))
     ∙ made (omega arith)
 carry-adjusted s r1 r0 true false k1 k0 e =
     let t = s * 16 + (r0 + 10) in
-    adjusted-by false (t % 256) (leb 16 (r0 + 10)) (leb 256 t) true false (exceeds s (r0 + 10) (omega arith) (omega arith)) (under t 6 (omega arith))
+    adjusted-by Addition (t % 256) (leb 16 (r0 + 10)) (leb 256 t) true false (exceeds s (r0 + 10) (omega arith) (omega arith)) (under t 6 (omega arith))
     ∙ made (omega arith)
 carry-adjusted s r1 r0 false true k1 k0 e =
     let t = s * 16 + (r0 + 0) in
-    adjusted-by false (t % 256) (leb 16 (r0 + 0)) (leb 256 t) false true (rw (le-ltb 9 (t % 256 % 16) (omega arith), lt-leb 16 (r0 + 0) (omega arith))) (over t 0 (omega arith) (omega arith) (omega arith))
+    adjusted-by Addition (t % 256) (leb 16 (r0 + 0)) (leb 256 t) false true (rw (le-ltb 9 (t % 256 % 16) (omega arith), lt-leb 16 (r0 + 0) (omega arith))) (over t 0 (omega arith) (omega arith) (omega arith))
     ∙ made (omega arith)
 carry-adjusted s r1 r0 true true k1 k0 e =
     let t = s * 16 + (r0 + 10) in
-    adjusted-by false (t % 256) (leb 16 (r0 + 10)) (leb 256 t) true true (exceeds s (r0 + 10) (omega arith) (omega arith)) (over t 6 (omega arith) (omega arith) (omega arith))
+    adjusted-by Addition (t % 256) (leb 16 (r0 + 10)) (leb 256 t) true true (exceeds s (r0 + 10) (omega arith) (omega arith)) (over t 6 (omega arith) (omega arith) (omega arith))
     ∙ made (omega arith)
 
 -- ---- in columns, as on paper: digits d1 d0 and e1 e0 with c coming in make r1 r0; p goes from column to column, and q out
@@ -110,7 +109,7 @@ low-digit x y h = omega arith
 
 module _ (d1 d0 e1 e0 r1 r0 : ℕ) (c : Bool) (h1 : d1 ≤ 9) (h0 : d0 ≤ 9) (g1 : e1 ≤ 9) (g0 : e0 ≤ 9) (k1 : r1 ≤ 9) (k0 : r0 ≤ 9) where
   borrow-plain : (p q : Bool) → d0 + 10 * bit p ≡ e0 + bit c + r0 → d1 + 10 * bit q ≡ e1 + bit p + r1
-      → plain true (d1 * 16 + d0) (e1 * 16 + e0) c ≡ byteOf (r1 * 16 + r0 + 6 * bit p + 96 * bit q) p q
+      → plain Subtraction (d1 * 16 + d0) (e1 * 16 + e0) c ≡ digitsOf (r1 * 16 + r0 + 6 * bit p + 96 * bit q) p q
   unfolding plain wrapOf
   borrow-plain false false low high =
       rw (low-digit d1 d0 (omega arith), low-digit e1 e0 (omega arith), le-ltb d0 (e0 + bit c) (omega arith), le-ltb (d1 * 16 + d0) (e1 * 16 + e0 + bit c) (omega arith))
@@ -126,20 +125,20 @@ module _ (d1 d0 e1 e0 r1 r0 : ℕ) (c : Bool) (h1 : d1 ≤ 9) (h0 : d0 ≤ 9) (g
       (made (omega arith))
 
   pub column-borrow : (p q : Bool) → d0 + 10 * bit p ≡ e0 + bit c + r0 → d1 + 10 * bit q ≡ e1 + bit p + r1
-      → digits true (d1 * 16 + d0) (e1 * 16 + e0) c ≡ byteOf (r1 * 16 + r0) p q
+      → digits Subtraction (d1 * 16 + d0) (e1 * 16 + e0) c ≡ digitsOf (r1 * 16 + r0) p q
   unfolding digits
   column-borrow p q low high = rw (borrow-plain p q low high) (borrow-adjusted r1 r0 p q k0 k1)
 
   carry-plain : (p : Bool) → d0 + e0 + bit c ≡ r0 + 10 * bit p
-      → plain false (d1 * 16 + d0) (e1 * 16 + e0) c
-      ≡ byteOf (((d1 + e1) * 16 + (r0 + 10 * bit p)) % 256) (leb 16 (r0 + 10 * bit p)) (leb 256 ((d1 + e1) * 16 + (r0 + 10 * bit p)))
+      → plain Addition (d1 * 16 + d0) (e1 * 16 + e0) c
+      ≡ digitsOf (((d1 + e1) * 16 + (r0 + 10 * bit p)) % 256) (leb 16 (r0 + 10 * bit p)) (leb 256 ((d1 + e1) * 16 + (r0 + 10 * bit p)))
   unfolding plain wrapOf
   carry-plain p low =
       let sum : d1 * 16 + d0 + (e1 * 16 + e0) + bit c ≡ (d1 + e1) * 16 + (r0 + 10 * bit p) = omega arith in
       rw (low-digit d1 d0 (omega arith), low-digit e1 e0 (omega arith), low, sum)
 
   pub column-carry : (p q : Bool) → d0 + e0 + bit c ≡ r0 + 10 * bit p → d1 + e1 + bit p ≡ r1 + 10 * bit q
-      → digits false (d1 * 16 + d0) (e1 * 16 + e0) c ≡ byteOf (r1 * 16 + r0) p q
+      → digits Addition (d1 * 16 + d0) (e1 * 16 + e0) c ≡ digitsOf (r1 * 16 + r0) p q
   unfolding digits
   column-carry p q low high = rw (carry-plain p low) (carry-adjusted (d1 + e1) r1 r0 p q k1 k0 high)
 
@@ -168,8 +167,8 @@ module _ (m n : ℕ) (c : Bool) (hm : m < 100) (hn : n < 100) where
     carry-columns false h e = omega (arith, bit-le c, leb-false 10 (m % 10 + n % 10 + bit c) e)
 
   -- SUB4S: the difference of two valid bytes and a borrow, modulo 100, with AC and CY as the borrows of its columns
-  pub decimal-borrow : digits true (packed m) (packed n) c
-      ≡ byteOf (packed ((100 + m - (n + bit c)) % 100)) (ltb (m % 10) (n % 10 + bit c)) (ltb m (n + bit c))
+  pub decimal-borrow : digits Subtraction (packed m) (packed n) c
+      ≡ digitsOf (packed ((100 + m - (n + bit c)) % 100)) (ltb (m % 10) (n % 10 + bit c)) (ltb m (n + bit c))
   decimal-borrow =
       let p = ltb (m % 10) (n % 10 + bit c) in
       let q = ltb m (n + bit c) in
@@ -179,8 +178,8 @@ module _ (m n : ℕ) (c : Bool) (hm : m < 100) (hn : n < 100) where
       (omega arith) (omega arith) p q (d .0) (d .1)
 
   -- ADD4S: the sum with a carry, likewise
-  pub decimal-carry : digits false (packed m) (packed n) c
-      ≡ byteOf (packed ((m + n + bit c) % 100)) (leb 10 (m % 10 + n % 10 + bit c)) (leb 100 (m + n + bit c))
+  pub decimal-carry : digits Addition (packed m) (packed n) c
+      ≡ digitsOf (packed ((m + n + bit c) % 100)) (leb 10 (m % 10 + n % 10 + bit c)) (leb 100 (m + n + bit c))
   decimal-carry =
       let p = leb 10 (m % 10 + n % 10 + bit c) in
       let q = leb 100 (m + n + bit c) in
@@ -190,5 +189,5 @@ module _ (m n : ℕ) (c : Bool) (hm : m < 100) (hn : n < 100) where
       (omega arith) (omega arith) p q (d .0) (d .1)
 
 -- the league's own case: 28 from 06 is 78, with a borrow
-pub six-less-28 : digits true 0x06 0x28 false ≡ byteOf 0x78 true true
+pub six-less-28 : digits Subtraction 0x06 0x28 false ≡ digitsOf 0x78 true true
 six-less-28 = decimal-borrow 6 28 false (lit≤ tt) (lit≤ tt)

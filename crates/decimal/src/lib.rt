@@ -2,43 +2,48 @@
 ghost use mathlib.Core.Path.{_≡_};
 ghost use Prim.Native.Nat.{_+_, _*_, _/_, _%_, _≤_};
 ghost use Rattle.sheet.specs.Width.{add16};
-ghost use Rattle.sheet.specs.Decimal.{adjusted, digits, plain};
+ghost use Rattle.sheet.specs.Adjust.{adjusted, digitsOf, plain};
+ghost use Rattle.sheet.specs.Decimal.{digits};
 use sheet::Digits;
+use sheet::Way;
 use word::digit;
 use word::only;
 
-// a plus b and a carry or, where `sub`, minus b and a borrow, with AC and CY of that. The bound serves the sums that the value goes into.
-pub fn plain(sub: bool, a: u16, b: u16, c: bool) -> Digits
-    ensures { λ r. ⌜ (r ≡ plain sub a b c) × (r .value ≤ 255) ⌝ }
+// a plus b and a carry, or a minus b and a borrow, with AC and CY of that. The bound serves the sums that the value goes into.
+pub fn plain(way: Way, a: u16, b: u16, c: bool) -> Digits
+    ensures { λ r. ⌜ (r ≡ plain way a b c) × (r .value ≤ 255) ⌝ }
 {
     let d = digit(c) as u32;
     let low = a as u32 % 16;
     let more = b as u32 % 16 + d;
-    if sub {
-        let taken = b as u32 + d;
-        Digits {
-            value: ((131072 + a as u32 - taken) % 256) as u16,
-            ac: low < more,
-            cy: (a as u32) < taken,
+    match way {
+        Way::Addition => {
+            let sum = a as u32 + b as u32 + d;
+            Digits {
+                value: (sum % 256) as u16,
+                ac: 16 <= low + b as u32 % 16 + d,
+                cy: 256 <= sum,
+            }
         }
-    } else {
-        let sum = a as u32 + b as u32 + d;
-        Digits {
-            value: (sum % 256) as u16,
-            ac: 16 <= low + b as u32 % 16 + d,
-            cy: 256 <= sum,
+        Way::Subtraction => {
+            let taken = b as u32 + d;
+            Digits {
+                value: ((131072 + a as u32 - taken) % 256) as u16,
+                ac: low < more,
+                cy: (a as u32) < taken,
+            }
         }
     }
 }
 
 // A byte after the two steps of an adjustment.
-pub fn adjusted(sub: bool, x: u16, ac: bool, cy: bool) -> Digits
-    ensures { λ r. ⌜ r ≡ adjusted sub x ac cy ⌝ }
+pub fn adjusted(way: Way, x: u16, ac: bool, cy: bool) -> Digits
+    ensures { λ r. ⌜ r ≡ adjusted way (digitsOf x ac cy) ⌝ }
 {
     let low = (9 < x % 16) | ac;
-    let y = plain(sub, x, only(low, 6), false);
+    let y = plain(way, x, only(low, 6), false);
     let high = (0x9f < y.value) | (cy | y.cy);
-    let z = plain(sub, y.value, only(high, 0x60), false);
+    let z = plain(way, y.value, only(high, 0x60), false);
     Digits {
         value: z.value,
         ac: low,
@@ -46,12 +51,12 @@ pub fn adjusted(sub: bool, x: u16, ac: bool, cy: bool) -> Digits
     }
 }
 
-// One byte of ADD4S, and of SUB4S and CMP4S where `sub`.
-pub fn digits(sub: bool, a: u16, b: u16, c: bool) -> Digits
-    ensures { λ r. ⌜ r ≡ digits sub a b c ⌝ }
+// One byte of ADD4S, or of SUB4S and CMP4S.
+pub fn digits(way: Way, a: u16, b: u16, c: bool) -> Digits
+    ensures { λ r. ⌜ r ≡ digits way a b c ⌝ }
 {
-    let d = plain(sub, a, b, c);
-    adjusted(sub, d.value, d.ac, d.cy)
+    let d = plain(way, a, b, c);
+    adjusted(way, d.value, d.ac, d.cy)
 }
 
 // The operand of ROL4: its low digit goes up, that of AL comes in.

@@ -11,7 +11,8 @@ use Rattle.sheet.specs.Registers.{AW, DW, PSW, AL, AH, fileOf, readReg}
 use Rattle.sheet.specs.Act.{_>>=_, _≔_, affect}
 use Rattle.sheet.specs.Arithmetic.{Result, finish}
 use Rattle.sheet.specs.Operand.{deposit, setReg}
-use Rattle.sheet.specs.Decimal.{packedResult, unpackedResult, adj4, adjb}
+use Rattle.sheet.specs.declared.Way.{Way}
+use Rattle.sheet.specs.Adjust.{digitsOf, packedResult, unpackedResult, adj4, adjb}
 use Rattle.sheet.specs.Convert.{converted, cvtbd, cvtdb, cvtbw, cvtwl}
 use Rattle.sheet.specs.Convert as sheet
 use Rattle.sheet.specs.Execute.{convert}
@@ -21,21 +22,21 @@ use Rattle.registers.proofs.Laws.{file-reg}
 use Rattle.psw.proofs.Results.{file-affect, value-is}
 
 module _ (f : List ℕ) where
-  pub adj4-is : (sub : Bool) (al : ℕ) (x : Flagged) (g : List ℕ) → al ≡ readReg false (fileOf f) AL → x ≡ flagged (packedResult sub al (flagOf (getD f PSW 0) AC) (flagOf (getD f PSW 0) CY)) (getD f PSW 0)
-      → OnFile Unit (setReg false AL (x .value)) (set f PSW (x .psw)) tt g → OnFile Unit (adj4 sub) f tt g
+  pub adj4-is : (way : Way) (al : ℕ) (x : Flagged) (g : List ℕ) → al ≡ readReg false (fileOf f) AL → x ≡ flagged (packedResult way (digitsOf al (flagOf (getD f PSW 0) AC) (flagOf (getD f PSW 0) CY))) (getD f PSW 0)
+      → OnFile Unit (setReg false AL (x .value)) (set f PSW (x .psw)) tt g → OnFile Unit (adj4 way) f tt g
   unfolding adj4 finish deposit
-  adj4-is sub al x g e q h =
-      let r = packedResult sub al (flagOf (getD f PSW 0) AC) (flagOf (getD f PSW 0) CY) in
+  adj4-is way al x g e q h =
+      let r = packedResult way (digitsOf al (flagOf (getD f PSW 0) AC) (flagOf (getD f PSW 0) CY)) in
       file-seq _ (file-reg false AL e) (file-seq _ (file-flag AC refl) (file-seq _ (file-flag CY refl) (file-seq _ (file-affect r f x q) (rw (value-is r f x q) at h))))
 
   -- AW and PSW by a result
   set-result : (r : Result) (x : Flagged) → x ≡ flagged r (getD f PSW 0) → OnFile Unit (affect (r .column) >>= (λ _. AW ≔ r .value)) f tt (set (set f PSW (x .psw)) AW (x .value))
   set-result r x q = file-seq _ (file-affect r f x q) (rw (value-is r f x q) (file-set AW (r .value)))
 
-  pub adjb-is : (sub : Bool) (x : Flagged) → x ≡ flagged (unpackedResult sub (getD f AW 0) (flagOf (getD f PSW 0) AC)) (getD f PSW 0)
-      → OnFile Unit (adjb sub) f tt (set (set f PSW (x .psw)) AW (x .value))
+  pub adjb-is : (way : Way) (x : Flagged) → x ≡ flagged (unpackedResult way (getD f AW 0) (flagOf (getD f PSW 0) AC)) (getD f PSW 0)
+      → OnFile Unit (adjb way) f tt (set (set f PSW (x .psw)) AW (x .value))
   unfolding adjb
-  adjb-is sub x q = file-seq _ file-registers (file-seq _ (file-flag AC refl) (set-result (unpackedResult sub (getD f AW 0) (flagOf (getD f PSW 0) AC)) x q))
+  adjb-is way x q = file-seq _ file-registers (file-seq _ (file-flag AC refl) (set-result (unpackedResult way (getD f AW 0) (flagOf (getD f PSW 0) AC)) x q))
 
   pub cvtbd-is : (x : Flagged) → x ≡ flagged (converted (getD f AW 0 % 256 / 10) (getD f AW 0 % 256 % 10)) (getD f PSW 0)
       → OnFile Unit cvtbd f tt (set (set f PSW (x .psw)) AW (x .value))

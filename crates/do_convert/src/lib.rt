@@ -3,26 +3,27 @@ use registers::AW;
 use registers::DW;
 use registers::PSW;
 use sheet::Convert;
+use sheet::Way;
+ghost use Rattle.sheet.specs.Adjust as adjust;
 ghost use Rattle.sheet.specs.Contract.{OnFile};
 ghost use Rattle.sheet.specs.Convert as sheet;
-ghost use Rattle.sheet.specs.Decimal as digits;
 ghost use Rattle.sheet.specs.Execute as tree;
 
-// ADJ4A, and ADJ4S where `sub`.
-fn adj4(file: &mut [u16; 14], sub: bool)
-    ensures { λ _. ⌜ OnFile Unit (digits.adj4 sub) (now (file .entry)) tt (now (file .exit)) ⌝ }
+// ADJ4A or ADJ4S.
+fn adj4(file: &mut [u16; 14], way: Way)
+    ensures { λ _. ⌜ OnFile Unit (adjust.adj4 way) (now (file .entry)) tt (now (file .exit)) ⌝ }
 {
     let al = registers::reg(false, file, 0);
-    let x = convert::adj4(sub, al, file[PSW]);
+    let x = convert::adj4(way, al, file[PSW]);
     file[PSW] = x.psw;
     registers::set_reg(false, file, 0, x.value);
 }
 
-// ADJBA, and ADJBS where `sub`.
-fn adjb(file: &mut [u16; 14], sub: bool)
-    ensures { λ _. ⌜ OnFile Unit (digits.adjb sub) (now (file .entry)) tt (now (file .exit)) ⌝ }
+// ADJBA or ADJBS.
+fn adjb(file: &mut [u16; 14], way: Way)
+    ensures { λ _. ⌜ OnFile Unit (adjust.adjb way) (now (file .entry)) tt (now (file .exit)) ⌝ }
 {
-    let x = convert::adjb(sub, file[AW], file[PSW]);
+    let x = convert::adjb(way, file[AW], file[PSW]);
     file[PSW] = x.psw;
     file[AW] = x.value;
 }
@@ -59,10 +60,10 @@ pub fn convert(file: &mut [u16; 14], i: Convert)
     ensures { λ _. ⌜ OnFile Unit (tree.convert i) (now (file .entry)) tt (now (file .exit)) ⌝ }
 {
     match i {
-        Convert::Adjba => adjb(file, false),
-        Convert::Adj4a => adj4(file, false),
-        Convert::Adjbs => adjb(file, true),
-        Convert::Adj4s => adj4(file, true),
+        Convert::Adjba => adjb(file, Way::Addition),
+        Convert::Adj4a => adj4(file, Way::Addition),
+        Convert::Adjbs => adjb(file, Way::Subtraction),
+        Convert::Adj4s => adj4(file, Way::Subtraction),
         Convert::Cvtbd => cvtbd(file),
         Convert::Cvtdb => cvtdb(file),
         Convert::Cvtbw => cvtbw(file),

@@ -1,6 +1,6 @@
 -- What each byte, each string and each instruction comes to, from what its parts come to.
 use Prim.Native.Nat.{ℕ, _+_, _*_, _/_, _%_, _≤_, _<_}
-use mathlib.Core.Path.{_≡_, refl, _∙_}
+use mathlib.Core.Path.{_≡_, refl, sym, _∙_}
 use mathlib.Core.Bool.{Bool, true, false, _&&_}
 use mathlib.Core.List.{List}
 use native.Mathlib.Nat.{add-le-add}
@@ -23,7 +23,9 @@ use Rattle.sheet.specs.World.{world, withFile}
 use Rattle.sheet.specs.Act.{peek, poke}
 use Rattle.sheet.specs.Handler.{_⊕_}
 use Rattle.sheet.specs.Operand.{locate, fetch, deposit, setReg}
-use Rattle.sheet.specs.Decimal.{digits, link, begun, chained, rol4, ror4, string}
+use Rattle.sheet.specs.declared.Way.{Way}
+use Rattle.sheet.specs.declared.Storing.{Storing}
+use Rattle.sheet.specs.Decimal.{digits, stores, link, begun, chained, rol4, ror4, string}
 use Rattle.sheet.specs.Contract.{OnFile, OnMemory}
 use Rattle.sheet.proofs.Rules.{⊕-assoc}
 use Rattle.sheet.proofs.Lifted.{file-seq, file-pure, file-registers, file-flags, memory-seq, memory-free, memory-last, memory-at-most, memory-true, file-false}
@@ -62,56 +64,56 @@ both-are f ram rom seg i g to from a b n m r p x z q y j =
       source = rw (z, q) at k;
     }
 
-module _ (f ram rom : List ℕ) (sub stores : Bool) (seg i : ℕ) (c : Chain) (a b : ℕ) (d : Digits) (n : Bus) where
-  pub link-stores : (ram′ : List ℕ) (to : ℕ) (k : Bus) → Both f ram rom seg i a b n → d ≡ digits sub a b (c .cy) → stores ≡ true → to ≡ add16 (getD f IY 0) i
+module _ (f ram rom : List ℕ) (way : Way) (storing : Storing) (stored : Bool) (seg i : ℕ) (c : Chain) (a b : ℕ) (d : Digits) (n : Bus) where
+  pub link-stores : (ram′ : List ℕ) (to : ℕ) (k : Bus) → Both f ram rom seg i a b n → d ≡ digits way a b (c .cy) → stored ≡ stores storing → stored ≡ true → to ≡ add16 (getD f IY 0) i
       → Stores false ram (getD f DS1 0) to (d .value) ram′ k
-      → OnMemory Chain (link sub stores seg i c) f ram rom (record { cy = d .cy; zero = c .zero && eqb (d .value) 0 }) f ram′ (n ⊕ k) 3
+      → OnMemory Chain (link way storing seg i c) f ram rom (record { cy = d .cy; zero = c .zero && eqb (d .value) 0 }) f ram′ (n ⊕ k) 3
   unfolding link
-  link-stores ram′ to k h s t q w =
+  link-stores ram′ to k h s e t q w =
       rw (h .sum, ⊕-assoc (h .first) (h .second) k)
       (memory-free _ file-registers
       (memory-seq _ {t = 1} {u = 2} (h .target)
-      (memory-seq _ {t = 1} {u = 1} (h .source) (rw (← s, ← q) (memory-last _ (memory-true _ _ t (stores-byte w f rom)) file-pure)))))
+      (memory-seq _ {t = 1} {u = 1} (h .source) (rw (← s, ← q) (memory-last _ (memory-true _ _ (sym e ∙ t) (stores-byte w f rom)) file-pure)))))
 
-  pub link-compares : Both f ram rom seg i a b n → d ≡ digits sub a b (c .cy) → stores ≡ false
-      → OnMemory Chain (link sub stores seg i c) f ram rom (record { cy = d .cy; zero = c .zero && eqb (d .value) 0 }) f ram n 3
+  pub link-compares : Both f ram rom seg i a b n → d ≡ digits way a b (c .cy) → stored ≡ stores storing → stored ≡ false
+      → OnMemory Chain (link way storing seg i c) f ram rom (record { cy = d .cy; zero = c .zero && eqb (d .value) 0 }) f ram n 3
   unfolding link
-  link-compares h s t =
+  link-compares h s e t =
       rw (h .sum)
       (memory-free _ file-registers
       (memory-seq _ {t = 1} {u = 2} (h .target)
-      (memory-at-most {t = 1} 2 (lit≤ tt) (memory-last _ (h .source) (rw (← s) (file-seq _ (file-false _ _ t file-pure) file-pure))))))
+      (memory-at-most {t = 1} 2 (lit≤ tt) (memory-last _ (h .source) (rw (← s) (file-seq _ (file-false _ _ (sym e ∙ t) file-pure) file-pure))))))
 
 -- ---- the strings
 
 -- after i of n bytes, with c in hand, RAM as it then is and accesses that come to k, whatever else is in the world
-pub record Turns (sub stores : Bool) (seg n : ℕ) (f ram rom : List ℕ) (i : ℕ) (c : Chain) (ram′ : List ℕ) (k : Bus) : Type 0 where
+pub record Turns (way : Way) (storing : Storing) (seg n : ℕ) (f ram rom : List ℕ) (i : ℕ) (c : Chain) (ram′ : List ℕ) (k : Bus) : Type 0 where
   pub most : k .cycles ≤ 3 * i
   pub fair : k .dropped ≤ 2 * k .cycles
-  pub at : (s : State) (tape log : List ℕ) → Goes Chain (link sub stores seg) n begun (world (withFile s f) ram rom tape log) i c (world (withFile s f) ram′ rom tape log) k
+  pub at : (s : State) (tape log : List ℕ) → Goes Chain (link way storing seg) n begun (world (withFile s f) ram rom tape log) i c (world (withFile s f) ram′ rom tape log) k
 
-module _ (sub stores : Bool) (seg n : ℕ) (f ram rom : List ℕ) where
-  pub turns-none : (k : Bus) → Free k → Turns sub stores seg n f ram rom 0 begun ram k
-  turns-none k e = rw (e .is) (record { most = lit≤ tt; fair = lit≤ tt; at = λ s tape log. goes-none Chain (link sub stores seg) n begun (world (withFile s f) ram rom tape log) })
+module _ (way : Way) (storing : Storing) (seg n : ℕ) (f ram rom : List ℕ) where
+  pub turns-none : (k : Bus) → Free k → Turns way storing seg n f ram rom 0 begun ram k
+  turns-none k e = rw (e .is) (record { most = lit≤ tt; fair = lit≤ tt; at = λ s tape log. goes-none Chain (link way storing seg) n begun (world (withFile s f) ram rom tape log) })
 
-  pub turns-more : (i : ℕ) (c c′ : Chain) (ram′ ram″ : List ℕ) (k m r : Bus) → Turns sub stores seg n f ram rom i c ram′ k → i < n
-      → OnMemory Chain (link sub stores seg i c) f ram′ rom c′ f ram″ m 3 → Joins k m r → Turns sub stores seg n f ram rom (i + 1) (record { cy = c′ .cy; zero = c′ .zero }) ram″ r
+  pub turns-more : (i : ℕ) (c c′ : Chain) (ram′ ram″ : List ℕ) (k m r : Bus) → Turns way storing seg n f ram rom i c ram′ k → i < n
+      → OnMemory Chain (link way storing seg i c) f ram′ rom c′ f ram″ m 3 → Joins k m r → Turns way storing seg n f ram rom (i + 1) (record { cy = c′ .cy; zero = c′ .zero }) ram″ r
   turns-more i c c′ ram′ ram″ k m r t l h j =
       rw (j .is)
       (record {
         most = (let a = t .most in let b = h .most in omega arith);
         fair = (let a = t .fair in let b = h .fair in omega arith);
-        at = λ s tape log. goes-more Chain (link sub stores seg) n _ _ i c _ _ (t .at s tape log) c′ _ m l (h .at s tape log);
+        at = λ s tape log. goes-more Chain (link way storing seg) n _ _ i c _ _ (t .at s tape log) c′ _ m l (h .at s tape log);
       })
 
-  pub turns-end : (i : ℕ) (c : Chain) (ram′ : List ℕ) (k : Bus) → Turns sub stores seg n f ram rom i c ram′ k → n ≤ 128 → i ≤ n → n ≤ i
-      → OnMemory Chain (chained sub stores seg n) f ram rom c f ram′ k 384
+  pub turns-end : (i : ℕ) (c : Chain) (ram′ : List ℕ) (k : Bus) → Turns way storing seg n f ram rom i c ram′ k → n ≤ 128 → i ≤ n → n ≤ i
+      → OnMemory Chain (chained way storing seg n) f ram rom c f ram′ k 384
   unfolding chained
   turns-end i c ram′ k t b l g =
       record {
         most = (let a = t .most in omega arith);
         fair = t .fair;
-        at = λ s tape log. goes-end Chain (link sub stores seg) n _ _ i c _ _ (t .at s tape log) g;
+        at = λ s tape log. goes-end Chain (link way storing seg) n _ _ i c _ _ (t .at s tape log) g;
       }
 
 pub string-psw-is : (x psw : ℕ) (c : Chain) (f : Flags) → f ≡ unpacked psw
@@ -120,10 +122,10 @@ pub string-psw-is : (x psw : ℕ) (c : Chain) (f : Flags) → f ≡ unpacked psw
 unfolding settled
 string-psw-is x psw c f e q = q ∙ rw e
 
-pub string-is : (f ram ram′ rom : List ℕ) (sub stores : Bool) (seg : ℕ) (c : Chain) (n : Bus) (x : ℕ) → OnMemory Chain (chained sub stores seg ((getD f CW 0 % 256 + 1) / 2)) f ram rom c f ram′ n 384
-    → x ≡ settled keeps (column (columns unknown (becomes (c .cy)) unknown unknown unknown (becomes (c .zero)))) (getD f PSW 0) → OnMemory Unit (string sub stores seg) f ram rom tt (set f PSW x) ram′ n 384
+pub string-is : (f ram ram′ rom : List ℕ) (way : Way) (storing : Storing) (seg : ℕ) (c : Chain) (n : Bus) (x : ℕ) → OnMemory Chain (chained way storing seg ((getD f CW 0 % 256 + 1) / 2)) f ram rom c f ram′ n 384
+    → x ≡ settled keeps (column (columns unknown (becomes (c .cy)) unknown unknown unknown (becomes (c .zero)))) (getD f PSW 0) → OnMemory Unit (string way storing seg) f ram rom tt (set f PSW x) ram′ n 384
 unfolding string readReg
-string-is f ram ram′ rom sub stores seg c n x h e =
+string-is f ram ram′ rom way storing seg c n x h e =
     memory-free _ (file-reg false CL refl)
     (memory-last _ h (file-flags (column (columns unknown (becomes (c .cy)) unknown unknown unknown (becomes (c .zero)))) e))
 

@@ -8,6 +8,8 @@ use sheet::Bus;
 use sheet::Chain;
 use sheet::Decimal;
 use sheet::Place;
+use sheet::Storing;
+use sheet::Way;
 ghost use mathlib.Core.Path.{_≡_};
 ghost use Prim.Native.Nat.{_≤_};
 ghost use Rattle.sheet.specs.Psw.{unknown, becomes, columns, column, keeps, settled};
@@ -48,27 +50,36 @@ fn read_both(file: &[u16; 14], ram: &[u8], rom: &[u8], seg: u8, i: u16) -> Bytes
     }
 }
 
+fn stores(storing: Storing) -> bool
+    ensures { λ r. ⌜ r ≡ sheet.stores storing ⌝ }
+{
+    match storing {
+        Storing::Stored => true,
+        Storing::NotStored => false,
+    }
+}
+
 // One byte of the result.
 fn link(
     file: &[u16; 14],
     ram: &mut [u8],
     rom: &[u8],
-    sub: bool,
-    stores: bool,
+    way: Way,
+    storing: Storing,
     seg: u8,
     i: u16,
     c: Chain,
 ) -> Linked
-    ensures { λ r. ⌜ Fills Chain (sheet.link sub stores seg i c) file ram rom (r .chain) (r .bus) 3 ⌝ }
+    ensures { λ r. ⌜ Fills Chain (sheet.link way storing seg i c) file ram rom (r .chain) (r .bus) 3 ⌝ }
 {
     let x = read_both(file, ram, rom, seg, i);
-    let d = decimal::digits(sub, x.to, x.from, c.cy);
+    let d = decimal::digits(way, x.to, x.from, c.cy);
     let chain = Chain {
         cy: d.cy,
         zero: c.zero & (d.value == 0),
     };
     let bus = x.bus;
-    if stores {
+    if stores(storing) {
         let n = memory::store(false, ram, file[DS1], word::plus16(file[IY], i), d.value);
         return Linked {
             chain,
@@ -83,20 +94,20 @@ fn chained(
     file: &[u16; 14],
     ram: &mut [u8],
     rom: &[u8],
-    sub: bool,
-    stores: bool,
+    way: Way,
+    storing: Storing,
     seg: u8,
     last: u16,
 ) -> Linked
     requires { ⌜ last ≤ 128 ⌝ }
-    ensures { λ r. ⌜ Fills Chain (sheet.chained sub stores seg last) file ram rom (r .chain) (r .bus) 384 ⌝ }
+    ensures { λ r. ⌜ Fills Chain (sheet.chained way storing seg last) file ram rom (r .chain) (r .bus) 384 ⌝ }
 {
     let mut i: u16 = 0;
     let mut cy = false;
     let mut zero = true;
     let mut t = tally::none();
     while i < last {
-        let l = link(file, ram, rom, sub, stores, seg, i, Chain { cy, zero });
+        let l = link(file, ram, rom, way, storing, seg, i, Chain { cy, zero });
         cy = l.chain.cy;
         zero = l.chain.zero;
         t = tally::both(t, l.bus);
@@ -116,12 +127,19 @@ fn string_psw(c: Chain, psw: u16) -> u16
     psw::affect(f.ac, c.cy, f.v, f.p, f.s, c.zero, psw)
 }
 
-// ADD4S, SUB4S where `sub`, and CMP4S where besides it does not store.
-fn string(file: &mut [u16; 14], ram: &mut [u8], rom: &[u8], sub: bool, stores: bool, seg: u8) -> Bus
-    ensures { λ r. ⌜ Does (sheet.string sub stores seg) file ram rom r 384 ⌝ }
+// ADD4S, SUB4S or CMP4S.
+fn string(
+    file: &mut [u16; 14],
+    ram: &mut [u8],
+    rom: &[u8],
+    way: Way,
+    storing: Storing,
+    seg: u8,
+) -> Bus
+    ensures { λ r. ⌜ Does (sheet.string way storing seg) file ram rom r 384 ⌝ }
 {
     let digits = file[CW] % 256;
-    let l = chained(file, ram, rom, sub, stores, seg, (digits + 1) / 2);
+    let l = chained(file, ram, rom, way, storing, seg, (digits + 1) / 2);
     file[PSW] = string_psw(l.chain, file[PSW]);
     l.bus
 }
@@ -154,9 +172,9 @@ pub fn decimal(file: &mut [u16; 14], ram: &mut [u8], rom: &[u8], i: Decimal) -> 
     ensures { λ r. ⌜ Does (tree.decimal i) file ram rom r 384 ⌝ }
 {
     match i {
-        Decimal::Add4s { seg } => string(file, ram, rom, false, true, seg),
-        Decimal::Sub4s { seg } => string(file, ram, rom, true, true, seg),
-        Decimal::Cmp4s { seg } => string(file, ram, rom, true, false, seg),
+        Decimal::Add4s { seg } => string(file, ram, rom, Way::Addition, Storing::Stored, seg),
+        Decimal::Sub4s { seg } => string(file, ram, rom, Way::Subtraction, Storing::Stored, seg),
+        Decimal::Cmp4s { seg } => string(file, ram, rom, Way::Subtraction, Storing::NotStored, seg),
         Decimal::Rol4 { to } => rol4(file, ram, rom, to),
         Decimal::Ror4 { to } => ror4(file, ram, rom, to),
     }

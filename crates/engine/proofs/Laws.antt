@@ -14,10 +14,10 @@ use Rattle.sheet.specs.declared.Progress.{Progress}
 use Rattle.sheet.specs.Registers.{PS, PC}
 use Rattle.sheet.specs.World.{World, world, stateOf}
 use Rattle.sheet.specs.Handler.{Outcome, run, kept, runBy, nothing}
-use Rattle.sheet.specs.Reading.{known, scan}
+use Rattle.sheet.specs.Reading.{known}
 use Rattle.sheet.specs.FirstByte.{instruction}
 use Rattle.sheet.specs.Contract.{Refuses, stops, exec, seen, report, reportOf}
-use Rattle.sheet.specs.Step.{refusal, source, codeByte, starting, stepping, decoded, awake, stepBy, step, stepReport}
+use Rattle.sheet.specs.Step.{refusal, source, codeByte, starting, stepping, decoded, awake, stepBy, step, stepReport, instructionIn}
 use Rattle.answers.specs.declared.Decoded.{Decoded}
 use Rattle.answers.specs.declared.Decoded.the-variants.{Known, Unknown}
 use Rattle.answers.specs.Answer.{Decodes}
@@ -33,13 +33,13 @@ use Rattle.engine.specs.declared.Advanced.{Advanced}
 use Rattle.engine.specs.Steps.{refusedAt, advancedBy, answerOf, Carries, Advances, Moves, Steps}
 
 -- what a machine that is not halted comes to, by what stands at PS:PC
-pub awake-known : (w : World) (i : Instr) (n : ℕ) → w .state .marks .halted ≡ false → scan instruction (source w) 0 ≡ known i n → awake kept w ≡ runBy kept (stepping i n) (starting i w)
+pub awake-known : (w : World) (i : Instr) (n : ℕ) → w .state .marks .halted ≡ false → instructionIn w ≡ known i n → awake kept w ≡ runBy kept (stepping i n) (starting i w)
 unfolding awake decoded
-awake-known w i n h e = rw (h, e)
+awake-known w i n h e = rw (e, h)
 
 awake-unknown : (w : World) (k : ℕ) → w .state .marks .halted ≡ false → Refuses Instr instruction (source w) 0 k → seen (awake kept w) ≡ stops k
-unfolding awake decoded
-awake-unknown w k h r = rw (h, r .is)
+unfolding instructionIn awake decoded
+awake-unknown w k h r = rw (r .is, h)
 
 pub refused-as : (m : Marks) (q : Progress) (number : ℕ) (n : Bus) → Free n → record { done = false; number = number; marks = m; progress = q; bus = n } ≡ refusedAt m q number
 refused-as m q number n e = rw (e .is)
@@ -73,7 +73,7 @@ module _ (f : List ℕ) (m : Marks) (q : Progress) (ram rom tape log : List ℕ)
     advances-read : (i : Instr) (size number : ℕ) (m′ : Marks) (q′ : Progress) (f′ ram′ log′ : List ℕ) (n : Bus) → r ≡ Known i size
         → Proceeds i size f ram rom tape log m q number m′ q′ f′ ram′ log′ n
         → Advances (stateOf f m q) ram rom tape log (eqb number 0) number (stateOf f′ m′ q′) ram′ log′ n
-    unfolding up exec run
+    unfolding up instructionIn exec run
     advances-read i size number m′ q′ f′ ram′ log′ n e p = go (eqb number 0) refl
       where
         known-at : awake kept up ≡ runBy kept (stepping i size) (starting i up)

@@ -2,7 +2,7 @@
 use Prim.Native.Nat.{ℕ, suc, _+_, _-_, _*_, _≤_, _<_, zero-le}
 use mathlib.Core.Bool.{Bool, true, false, true≢false}
 use mathlib.Core.List.{List, [], _∷_, _++_}
-use mathlib.Core.Path.{_≡_, refl, sym, ap, _∙_}
+use mathlib.Core.Path.{_≡_, refl, ap, _∙_}
 use native.Mathlib.Omega.{arith}
 use lib.ListN.{length}
 use borrow.Author.Tests.{le-leb}
@@ -11,10 +11,10 @@ use Rattle.sheet.specs.declared.State.{State}
 use Rattle.sheet.specs.declared.Marks.{Marks}
 use Rattle.sheet.specs.declared.Progress.{Progress}
 use Rattle.sheet.specs.World.{World, world, stateOf}
-use Rattle.sheet.specs.Handler.{Event, Outcome, refused, done, kept, nothing, _⊕_, cost, tally}
+use Rattle.sheet.specs.Handler.{Event, Outcome, refused, done, kept, nothing, _⊕_, tally}
 use Rattle.sheet.specs.Contract.{stops, ends, seen}
 use Rattle.sheet.specs.Step.{fits, marksGood, sound, refusal, awake, stepBy}
-use Rattle.sheet.specs.Run.{Ran, ran, more, onward, stepsBy, runsBy, runs, RunReport, runReported, ranReport}
+use Rattle.sheet.specs.Run.{FinishedStep, begunIn, Ran, ran, more, onward, stepsBy, runsBy, runs, RunReport, tallyAll, runReported, ranReport}
 use Rattle.sheet.proofs.Rules.{no-first, no-last, ⊕-assoc}
 use Rattle.sheet.proofs.Lent.{Lent, Sound}
 use Rattle.sheet.proofs.StepLaws.{step-leaves}
@@ -27,12 +27,6 @@ use Rattle.calls.proofs.Laws.{passed, checked-passed, checked-refused}
 use Rattle.engine.specs.Steps.{Advances}
 use Rattle.engine.specs.Runs.{Runs}
 
--- what two lists of events come to
-pub tally-both : (t u : List Event) → tally (t ++ u) ≡ tally t ⊕ tally u
-unfolding tally
-tally-both [] u = sym (no-first (tally u))
-tally-both (e ∷ t) u = rw (tally-both t u) (sym (⊕-assoc (cost e) (tally t) (tally u)))
-
 -- k steps that come to c, in front of what a run reports
 abbrev before : ℕ → Bus → RunReport → RunReport
 before k c (runReported r w m b) = runReported r w (k + m) (c ⊕ b)
@@ -42,15 +36,16 @@ one-step : (j : ℕ) (w : World) → stepsBy (λ i. kept) (suc j) w ≡ onward w
 unfolding stepsBy
 one-step j w = refl
 
-no-step : (w : World) → stepsBy (λ i. kept) 0 w ≡ ran 0 w 0 []
+no-step : (w : World) → stepsBy (λ i. kept) 0 w ≡ ran 0 w [] []
 unfolding stepsBy
 no-step w = refl
 
--- a run that goes on in v after one step of t
-report-more : (t : List Event) (r : Ran) (k : ℕ) (c : Bus) → before k c (ranReport (more t r)) ≡ before (k + 1) (c ⊕ tally t) (ranReport r)
-report-more t (ran n w m u) k c =
-    let a : k + suc m ≡ k + 1 + m = omega arith in
-    rw (tally-both t u, a, ⊕-assoc c (tally t) (tally u))
+-- a run that goes on after one step
+report-more : (s : FinishedStep) (r : Ran) (k : ℕ) (c : Bus) → before k c (ranReport (more s r)) ≡ before (k + 1) (c ⊕ tally (s .events)) (ranReport r)
+unfolding tallyAll
+report-more s (ran n w l u) k c =
+    let a : k + suc (length l) ≡ k + 1 + length l = omega arith in
+    rw (a, ⊕-assoc c (tally (s .events)) (tallyAll l))
 
 -- ---- what an outcome is, by what is seen of it
 
@@ -135,14 +130,14 @@ module _ {w : World} {s : State} {ram rom tape log : List ℕ} {k : ℕ} {c : Bu
       v′ = world s′ ram′ rom tape log′
 
       one-more : Done (stepBy kept v) v′ n → (j : ℕ) → before k c (ranReport (stepsBy (λ i. kept) (suc j) v)) ≡ before (k + 1) (c ⊕ n) (ranReport (stepsBy (λ i. kept) j v′))
-      one-more d j = rw (one-step j v, d .is) (report-more (d .events) (stepsBy (λ i. kept) j v′) k c ∙ rw (d .sum))
+      one-more d j = rw (one-step j v, d .is) (report-more (begunIn v (d .events)) (stepsBy (λ i. kept) j v′) k c ∙ rw (d .sum))
 
       rest-of : Done (stepBy kept v) v′ n → (j : ℕ) → ranReport (stepsBy (λ i. kept) (k + 1 + j) w) ≡ before (k + 1) (c ⊕ n) (ranReport (stepsBy (λ i. kept) j v′))
       rest-of d j = let z : k + 1 + j ≡ k + suc j = omega arith in rw z (p .rest (suc j) ∙ one-more d j)
 
   continues-stop : (budget number : ℕ) → k < budget → seen (awake kept v) ≡ stops number
       → ranReport (stepsBy (λ i. kept) budget w) ≡ runReported number v k c
-  unfolding v tally
+  unfolding v tallyAll
   continues-stop budget number h a =
       let d = as-refused (stepBy kept v) number (ap seen (step-on v (p .good)) ∙ a) in
       let z : budget ≡ k + suc (budget - k - 1) = omega arith in
@@ -150,7 +145,7 @@ module _ {w : World} {s : State} {ram rom tape log : List ℕ} {k : ℕ} {c : Bu
       rw z (p .rest (suc (budget - k - 1)) ∙ rw (one-step (budget - k - 1) v, d .1, x, no-last c))
 
   continues-end : (budget : ℕ) → k ≡ budget → ranReport (stepsBy (λ i. kept) budget w) ≡ runReported 0 v k c
-  unfolding v tally
+  unfolding v tallyAll
   continues-end budget h =
       let z : budget ≡ k + 0 = omega arith in
       let x : k + 0 ≡ k = omega arith in
@@ -160,7 +155,7 @@ module _ {w : World} {s : State} {ram rom tape log : List ℕ} {k : ℕ} {c : Bu
 
 pub runs-on : (budget : ℕ) (w : World) → (fits w ≡ true) × (sound w ≡ true) → runs budget w ≡ stepsBy (λ i. kept) budget w
 unfolding runs runsBy
-runs-on budget w = checked-passed w (λ n. ran n w 0 []) (stepsBy (λ i. kept) budget w)
+runs-on budget w = checked-passed w (λ n. ran n w [] []) (stepsBy (λ i. kept) budget w)
 
 module _ {budget : ℕ} {s : State} {ram rom tape log f ram₁ log₁ : List ℕ} {m : Marks} {q : Progress} {k : ℕ} {c : Bus}
     (p : Continues (world s ram rom tape log) (world (stateOf f m q) ram₁ rom tape log₁) k c) where
@@ -184,8 +179,8 @@ module _ {budget : ℕ} {s : State} {ram rom tape log f ram₁ log₁ : List ℕ
 
 pub runs-refused : (budget : ℕ) (s : State) (ram rom tape log : List ℕ) (number : ℕ) (n : Bus) → number ≡ checkNumber (world s ram rom tape log) → (number ≡ 0 → ⊥) → Free n
     → Runs budget s ram rom tape log number s ram log 0 n
-unfolding runs runsBy tally
+unfolding runs runsBy tallyAll
 runs-refused budget s ram rom tape log number n e z k =
     let w : World = world s ram rom tape log in
     rw (k .is)
-    (record { within = zero-le; most = zero-le; is = ap ranReport (checked-refused w (λ n. ran n w 0 []) (stepsBy (λ i. kept) budget w) number e z) })
+    (record { within = zero-le; most = zero-le; is = ap ranReport (checked-refused w (λ n. ran n w [] []) (stepsBy (λ i. kept) budget w) number e z) })

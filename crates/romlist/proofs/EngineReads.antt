@@ -9,9 +9,11 @@ use lib.Dec.{lit<}
 use borrow.Author.Tests.{le-ltb, le-leb}
 use Rattle.sheet.specs.declared.Instr.{Instr}
 use Rattle.sheet.specs.Memory.{physical, byteAt}
-use Rattle.sheet.specs.Reading.{Read, known, scan, lengthOf}
+use Rattle.sheet.specs.Reading.{Read, known, lengthOf}
 use Rattle.sheet.specs.FirstByte.{instruction}
-use Rattle.sheet.specs.Step.{codeAt, codeByte}
+use Rattle.sheet.specs.Registers.{PS, PC, fileOf}
+use Rattle.sheet.specs.World.{World}
+use Rattle.sheet.specs.Step.{codeAt, codeByte, source, instructionIn}
 use Rattle.sheet.proofs.ReadingLaws.{scan-rests}
 use Rattle.romlist.specs.Listing.{top, readAt, whole, sizeOf, sizeAt}
 use Rattle.romlist.proofs.NineBytes.{nine-read, nine-bytes}
@@ -66,19 +68,29 @@ module _ (ram image : List ℕ) (ps pc : ℕ) where
       listed : codeAt (a / 16) (a % 16) j ≡ a + j
       listed = unwrapped-at (a / 16) (a % 16) j (omega arith) (omega arith) ∙ ap (λ x. x + j) paragraph
 
-  -- ---- what is read there
+-- ---- what is read there
+
+module _ (w : World) where
+  abbrev ps : ℕ
+  ps = fileOf (w .state .file) PS
+
+  abbrev pc : ℕ
+  pc = fileOf (w .state .file) PC
+
+  abbrev listed : ℕ → ℕ
+  listed = listedByte (w .ram) (w .rom) ps pc
 
   -- what the listing reads, instruction or refusal, the engine reads with the image as its ROM
-  pub engine-reads : (r : Read Instr) → Lies ram image ps pc (lengthOf r) → readAt image (physical ps pc) ≡ r → scan instruction (codeByte ram image ps pc) 0 ≡ r
-  unfolding readAt
-  engine-reads r l e = sym (scan-rests instruction listedByte engineByte 0 (λ j low high. sym (same-byte l (rw e at (nine-read listedByte)) j (rw e at high)))) ∙ e
+  pub engine-reads : (r : Read Instr) → Lies (w .ram) (w .rom) ps pc (lengthOf r) → readAt (w .rom) (physical ps pc) ≡ r → instructionIn w ≡ r
+  unfolding instructionIn readAt
+  engine-reads r l e = sym (scan-rests instruction listed (source w) 0 (λ j low high. sym (same-byte (w .ram) (w .rom) ps pc l (rw e at (nine-read listed)) j (rw e at high)))) ∙ e
 
   -- and the other way round
-  pub listing-reads : (r : Read Instr) → Lies ram image ps pc (lengthOf r) → scan instruction (codeByte ram image ps pc) 0 ≡ r → readAt image (physical ps pc) ≡ r
-  unfolding readAt
-  listing-reads r l e = sym (scan-rests instruction engineByte listedByte 0 (λ j low high. same-byte l (rw e at (nine-read engineByte)) j (rw e at high))) ∙ e
+  pub listing-reads : (r : Read Instr) → Lies (w .ram) (w .rom) ps pc (lengthOf r) → instructionIn w ≡ r → readAt (w .rom) (physical ps pc) ≡ r
+  unfolding instructionIn readAt
+  listing-reads r l e = sym (scan-rests instruction (source w) listed 0 (λ j low high. same-byte (w .ram) (w .rom) ps pc l (rw e at (nine-read (source w))) j (rw e at high))) ∙ e
 
   -- the line there names as many bytes as the engine's instruction has
-  pub same-length : (i : Instr) (n : ℕ) → Lies ram image ps pc n → scan instruction (codeByte ram image ps pc) 0 ≡ known i n → sizeAt image (physical ps pc) ≡ n
-  unfolding sizeAt sizeOf whole
-  same-length i n l e = rw (listing-reads (known i n) l e, le-leb n (top - physical ps pc) (l .ends), le-leb n 9 (nine-bytes engineByte i n e)) refl
+  pub same-length : (i : Instr) (n : ℕ) → Lies (w .ram) (w .rom) ps pc n → instructionIn w ≡ known i n → sizeAt (w .rom) (physical ps pc) ≡ n
+  unfolding instructionIn sizeAt sizeOf whole
+  same-length i n l e = rw (listing-reads (known i n) l e, le-leb n (top - physical ps pc) (l .ends), le-leb n 9 (nine-bytes (source w) i n e)) refl

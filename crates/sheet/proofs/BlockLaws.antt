@@ -22,7 +22,7 @@ use Rattle.sheet.specs.Reading as reading
 use Rattle.sheet.specs.Reading.{Reading, got, no, known, scan}
 use Rattle.sheet.specs.Encoding.{Prefix, unprefixed, withPrefix, prefixOf, segOr, lookUp}
 use Rattle.sheet.specs.FirstByte.{firstBytes, afterPrefix, prefixed, instruction}
-use Rattle.sheet.specs.Step.{fits, sound, source, stepping, starting, decoded, awake, stepBy}
+use Rattle.sheet.specs.Step.{fits, sound, source, stepping, starting, decoded, awake, stepBy, instructionIn}
 
 -- prefix bytes, read after p, leave q
 pub data Prefixing : List ℕ → Prefixes → Prefixes → Type 0 where
@@ -99,15 +99,15 @@ code-read Outm true q = (refl, refl)
 code-read Outm false q = (refl, refl)
 
 -- a block instruction with at most three prefixes is read whole
-pub block-read : {l : List ℕ} {q : Prefixes} (k : Primitive) (w : Bool) (src : ℕ → ℕ) → Prefixing l unprefixed q → length l ≤ 3 → Begins (l ++ (blockCode k w ∷ [])) src 0
-    → scan instruction src 0 ≡ known (Blocks k w (segOr (q .seg) inDs0) (q .repeat)) (0 + length l + 1)
-unfolding instruction scan
-block-read {q = q} k w src z r h =
-    scan-prefixes (blockCode k w) 3 src 0 z r (code-read k w q .0) h ∙ rw (code-read k w q .1)
+pub block-read : {l : List ℕ} {q : Prefixes} (k : Primitive) (b : Bool) (w : World) → Prefixing l unprefixed q → length l ≤ 3 → Begins (l ++ (blockCode k b ∷ [])) (source w) 0
+    → instructionIn w ≡ known (Blocks k b (segOr (q .seg) inDs0) (q .repeat)) (0 + length l + 1)
+unfolding instructionIn instruction scan
+block-read {q = q} k b w z r h =
+    scan-prefixes (blockCode k b) 3 (source w) 0 z r (code-read k b q .0) h ∙ rw (code-read k b q .1)
 
 -- and the step does it
 pub block-turns : {l : List ℕ} {q : Prefixes} (u : ℕ → Choice) (k : Primitive) (b : Bool) (w : World) → Prefixing l unprefixed q → length l ≤ 3
     → Begins (l ++ (blockCode k b ∷ [])) (source w) 0 → fits w ≡ true → sound w ≡ true → w .state .marks .halted ≡ false
     → stepBy u w ≡ runBy u (stepping (Blocks k b (segOr (q .seg) inDs0) (q .repeat)) (0 + length l + 1)) (starting (Blocks k b (segOr (q .seg) inDs0) (q .repeat)) w)
 unfolding stepBy awake decoded
-block-turns u k b w z r h f s a = rw (f, s, a, block-read k b (source w) z r h)
+block-turns u k b w z r h f s a = rw (f, s, block-read k b w z r h, a)

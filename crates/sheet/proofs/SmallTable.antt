@@ -19,7 +19,8 @@ use Rattle.sheet.specs.Traps.{push, pushPsw, pushPsPc, jumpFar, save, tr
 use Rattle.sheet.specs.Arithmetic.{resulting, sum, finish, operate, conclude, two}
 use Rattle.sheet.specs.Multiply.{stands, bitsOf, quoted, signedQuotient, dividend, setQuotient, divided, div}
 use Rattle.sheet.specs.Shift.{comesIn, toLeft, onePlace, manyPlaces, shifted, turned, shiftMany, carryIn, shiftBy, shift}
-use Rattle.sheet.specs.Decimal.{adjusted, plain, digits, packedResult, adj4, link, chained, string}
+use Rattle.sheet.specs.Adjust.{plain, lowAdjusted, highAdjusted, adjusted, packedResult, adj4}
+use Rattle.sheet.specs.Decimal.{digits, link, chained, string}
 use Rattle.sheet.specs.Fields.{replaced, lengthOf, advance, insertInto, firstPart, secondPart, ins}
 use Rattle.sheet.specs.Transfer.{movIn}
 use Rattle.sheet.specs.Stack.{pushRegister, pushPlace, stack, popIn}
@@ -29,7 +30,7 @@ use Rattle.sheet.specs.Reading.{scan, word, immediate, allow}
 use Rattle.sheet.specs.Encoding.{prefixOf, formed, address, inMemory, place, lookUp}
 use Rattle.sheet.specs.SecondByte.{fieldGiven}
 use Rattle.sheet.specs.FirstByte.{withAcc, withPlace, withShift, shiftGroup, groupF6, afterPrefix, prefixed, instruction}
-use Rattle.sheet.specs.Step.{fits, sound, singleStep, loadsSegment, movesIn, stepping, starting, decoded, awake, stepBy, step, stepReport}
+use Rattle.sheet.specs.Step.{fits, sound, singleStep, loadsSegment, movesIn, stepping, starting, decoded, awake, stepBy, step, stepReport, instructionIn}
 use Rattle.sheet.specs.Contract.{report}
 
 -- AW CW DW BW SP BP IX IY DS1 PS SS DS0 PC PSW, a count of steps, and RAM; no ROM, tape or log
@@ -96,7 +97,7 @@ pub record SmallTable : Type 0 where
   pub number : groupsOf 3 300 ≡ 0xac ∷ 0x02 ∷ []
 
 pub small-table : SmallTable
-unfolding ones wrapOf signOf evenOf extend signedOf bits32 settled readReg regWord byteAt readMem writeMem busCycles lost lostBytes groupsOf act._>>=_ loop runBy tally formAt regValue setReg locate fetch deposit valueAt sourceValue amountOf push pushPsw pushPsPc jumpFar save trap untrapped resulting sum finish operate conclude two stands bitsOf quoted signedQuotient dividend setQuotient divided div comesIn toLeft onePlace manyPlaces shifted turned shiftMany carryIn shiftBy shift adjusted plain digits packedResult adj4 link chained string replaced lengthOf advance insertInto firstPart secondPart Rattle.sheet.specs.Fields.ins pushRegister pushPlace stack calculate multiply convert decimal field computing moving operation execute reading._>>=_ scan word immediate allow prefixOf formed address inMemory place lookUp fieldGiven withAcc withPlace withShift shiftGroup groupF6 afterPrefix prefixed instruction fits sound singleStep loadsSegment movesIn movIn popIn stepping starting decoded awake stepBy step stepReport
+unfolding ones wrapOf signOf evenOf extend signedOf bits32 settled readReg regWord byteAt readMem writeMem busCycles lost lostBytes groupsOf act._>>=_ loop runBy tally formAt regValue setReg locate fetch deposit valueAt sourceValue amountOf push pushPsw pushPsPc jumpFar save trap untrapped resulting sum finish operate conclude two stands bitsOf quoted signedQuotient dividend setQuotient divided div comesIn toLeft onePlace manyPlaces shifted turned shiftMany carryIn shiftBy shift lowAdjusted highAdjusted adjusted plain digits packedResult adj4 link chained string replaced lengthOf advance insertInto firstPart secondPart Rattle.sheet.specs.Fields.ins pushRegister pushPlace stack calculate multiply convert decimal field computing moving operation execute reading._>>=_ scan word immediate allow prefixOf formed address inMemory place lookUp fieldGiven withAcc withPlace withShift shiftGroup groupF6 afterPrefix prefixed instruction instructionIn fits sound singleStep loadsSegment movesIn movIn popIn stepping starting decoded awake stepBy step stepReport
 small-table = record {
   adj4a = refl;
   sub4s = refl;

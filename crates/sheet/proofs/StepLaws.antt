@@ -14,9 +14,8 @@ use Rattle.sheet.specs.Psw.{IE, Choice, flagOf, fixedOf}
 use Rattle.sheet.specs.Log.{rule}
 use Rattle.sheet.specs.World.{World, pswOf}
 use Rattle.sheet.specs.Handler.{Event, Outcome, refused, done, runBy}
-use Rattle.sheet.specs.Reading.{Read, known, unknown, scan}
-use Rattle.sheet.specs.FirstByte.{instruction}
-use Rattle.sheet.specs.Step.{fits, placesGood, sound, refusal, source, stepping, starting, decoded, awake, stepBy, interrupting, interruptBy}
+use Rattle.sheet.specs.Reading.{Read, known, unknown}
+use Rattle.sheet.specs.Step.{fits, placesGood, sound, refusal, stepping, starting, decoded, awake, stepBy, interrupting, interruptBy, instructionIn}
 use Rattle.sheet.proofs.Lent.{Leaves, leaves, Sound, Good, stays-good}
 
 -- an outcome that is refused is not done
@@ -31,14 +30,14 @@ pub record Stepped (u : ℕ → Choice) (w v : World) (t : List Event) : Type 0 
   pub fit : fits w ≡ true
   pub good : sound w ≡ true
   pub up : w .state .marks .halted ≡ false
-  pub read : scan instruction (source w) 0 ≡ known instr size
+  pub read : instructionIn w ≡ known instr size
   pub ran : runBy u (stepping instr size) (starting instr w) ≡ done tt v t
 
 pub begins : (u : ℕ → Choice) (w v : World) (t : List Event) → stepBy u w ≡ done tt v t → Stepped u w v t
 unfolding stepBy awake decoded
-begins u w v t e = go (fits w) (sound w) (w .state .marks .halted) (scan instruction (source w) 0) refl refl refl refl e
+begins u w v t e = go (fits w) (sound w) (w .state .marks .halted) (instructionIn w) refl refl refl refl e
   where
-    go : (f s h : Bool) (r : Read Instr) → fits w ≡ f → sound w ≡ s → w .state .marks .halted ≡ h → scan instruction (source w) 0 ≡ r
+    go : (f s h : Bool) (r : Read Instr) → fits w ≡ f → sound w ≡ s → w .state .marks .halted ≡ h → instructionIn w ≡ r
         → pick f (pick s (pick h (refusal 8) (decoded u r w)) (refusal 2)) (refusal 1) ≡ done tt v t → Stepped u w v t
     go true true false (known i n) a b c d q = record { instr = i; size = n; fit = a; good = b; up = c; read = d; ran = q }
     go true true false (unknown k n) a b c d q = absurd (no-done q)

@@ -14,6 +14,7 @@ use Rattle.sheet.specs.declared.Multiply.{Multiply}
 use Rattle.sheet.specs.declared.Multiply.the-variants.{Mulu, Mul, MulByte, MulWord, Divu, Div}
 use Rattle.sheet.specs.declared.Convert.{Convert}
 use Rattle.sheet.specs.declared.Convert.the-variants.{Adjba, Adj4a, Adjbs, Adj4s, Cvtbd, Cvtdb, Cvtbw, Cvtwl}
+use Rattle.sheet.specs.declared.Way.the-variants.{Addition, Subtraction}
 use Rattle.sheet.specs.declared.Decimal.{Decimal}
 use Rattle.sheet.specs.declared.Decimal.the-variants.{Add4s, Sub4s, Cmp4s, Rol4, Ror4}
 use Rattle.sheet.specs.declared.Field.{Field}
@@ -28,7 +29,8 @@ use Rattle.sheet.specs.Multiply.{mulu, mul, mulBy, divu, div}
 use Rattle.sheet.specs.Convert.{cvtbd, cvtdb, cvtbw, cvtwl}
 use Rattle.sheet.specs.Shift.{shift}
 use Rattle.sheet.specs.Bits.{bits}
-use Rattle.sheet.specs.Decimal.{adj4, adjb, add4s, sub4s, cmp4s, rol4, ror4}
+use Rattle.sheet.specs.Adjust.{adj4, adjb}
+use Rattle.sheet.specs.Decimal.{add4s, sub4s, cmp4s, rol4, ror4}
 use Rattle.sheet.specs.Fields.{ins, ext}
 use Rattle.sheet.specs.Stack.{stack}
 use Rattle.sheet.specs.Branch.{branch, conditional}
@@ -51,10 +53,10 @@ multiply (Divu w by) = divu w by
 multiply (Div w by) = div w by
 
 unfoldable pub convert : Convert → Act Unit
-convert Adjba = adjb false
-convert Adj4a = adj4 false
-convert Adjbs = adjb true
-convert Adj4s = adj4 true
+convert Adjba = adjb Addition
+convert Adj4a = adj4 Addition
+convert Adjbs = adjb Subtraction
+convert Adj4s = adj4 Subtraction
 convert Cvtbd = cvtbd
 convert Cvtdb = cvtdb
 convert Cvtbw = cvtbw

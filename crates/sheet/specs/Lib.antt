@@ -15,6 +15,7 @@ pub mod Arithmetic
 pub mod Multiply
 pub mod Shift
 pub mod Bits
+pub mod Adjust
 pub mod Decimal
 pub mod Convert
 pub mod Fields

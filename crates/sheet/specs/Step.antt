@@ -64,6 +64,10 @@ codeByte ram rom ps pc j = byteAt ram rom (codeAt ps pc j)
 abbrev pub source : World → ℕ → ℕ
 source w = codeByte (w .ram) (w .rom) (fileOf (w .state .file) PS) (fileOf (w .state .file) PC)
 
+-- what the bytes at PS:PC say: whoever asks which instruction comes next asks here
+unfoldable pub instructionIn : World → Read Instr
+instructionIn w = scan instruction (source w) 0
+
 -- what a trap from outside the instruction does: it ends a halt
 unfoldable pub interrupting : ℕ → Act Unit
 interrupting v = do
@@ -107,7 +111,7 @@ decoded u (known i n) w = runBy u (stepping i n) (starting i w)
 decoded u (unknown r n) w = refusal r
 
 unfoldable pub awake : (ℕ → Choice) → World → Outcome Unit
-awake u w = pick (w .state .marks .halted) (refusal 8) (decoded u (scan instruction (source w) 0) w)
+awake u w = pick (w .state .marks .halted) (refusal 8) (decoded u (instructionIn w) w)
 
 unfoldable pub stepBy : (ℕ → Choice) → World → Outcome Unit
 stepBy u w = checked w refusal (awake u w)

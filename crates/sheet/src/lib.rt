@@ -390,6 +390,18 @@ pub struct Turn {
     pub cy: bool,
 }
 
+// Which way decimal digits are calculated: ADD4S, ADJ4A and ADJBA add, SUB4S, CMP4S, ADJ4S and ADJBS subtract.
+pub enum Way {
+    Addition,
+    Subtraction,
+}
+
+// What becomes of the result of a decimal string: CMP4S stores nothing.
+pub enum Storing {
+    Stored,
+    NotStored,
+}
+
 // A byte with AC and CY.
 pub struct Digits {
     pub value: u16,

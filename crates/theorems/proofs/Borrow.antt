@@ -19,23 +19,25 @@ use Rattle.sheet.specs.declared.Compute.the-variants.{Decimals}
 use Rattle.sheet.specs.declared.Instr.the-variants.{Computes}
 use Rattle.sheet.specs.declared.Decimal.the-variants.{Sub4s}
 use Rattle.sheet.specs.Width.{add16}
-use Rattle.sheet.specs.Psw.{CY, BRK, unknown, becomes, columns, column, keeps, settle, flagOf, settled}
-use Rattle.sheet.specs.Registers.{IX, IY, DS0, DS1, PC, PSW, CL, inDs0, written, readReg}
+use Rattle.sheet.specs.Psw.{CY, BRK, unknown, becomes, columns, column, keeps, flagOf, settled}
+use Rattle.sheet.specs.Registers.{IX, IY, DS0, DS1, PC, PSW, CL, inDs0, readReg}
 use Rattle.sheet.specs.Memory.{readMem, writeMem}
-use Rattle.sheet.specs.World.{World, world, withState, pswOf, withFile, withPsw}
+use Rattle.sheet.specs.World.{World, world, pswOf, withPsw}
 use Rattle.sheet.specs.Act.{Act, affect, loop, _>>=_}
 use Rattle.sheet.specs.Handler.{Event, done, nothing, run, runBy, tally}
-use Rattle.sheet.specs.Contract.{ends, seen, exec, Ends, report, reportOf}
+use Rattle.sheet.specs.Contract.{ends, seen, exec, Ends, report}
 use Rattle.sheet.specs.Reading as reading
 use Rattle.sheet.specs.Reading.{known, scan}
 use Rattle.sheet.specs.Encoding.{unprefixed, prefixOf, lookUp}
 use Rattle.sheet.specs.SecondByte.{secondBytes}
 use Rattle.sheet.specs.FirstByte.{firstBytes, instruction}
 use Rattle.sheet.specs.Operand.{regValue}
+use Rattle.sheet.specs.declared.Way.the-variants.{Subtraction}
+use Rattle.sheet.specs.declared.Storing.the-variants.{Stored}
 use Rattle.sheet.specs.Decimal.{digits, link, chained, string}
 use Rattle.sheet.specs.Traps.{untrapped}
 use Rattle.sheet.specs.Execute.{computing, decimal, operation, execute}
-use Rattle.sheet.specs.Step.{fits, sound, source, loadsSegment, singleStep, starting, stepping, step, stepReport}
+use Rattle.sheet.specs.Step.{fits, sound, source, loadsSegment, singleStep, starting, stepping, step, stepReport, instructionIn}
 use Rattle.sheet.proofs.PswLaws.{flag-settled}
 use Rattle.sheet.proofs.Rules.{seq-last, ends-pure, seq-registers, seq-set, seq-flag}
 use Rattle.sheet.proofs.BlockLaws.{no-prefix, Begins, scan-prefixes}
@@ -79,9 +81,9 @@ no-prefix-byte : prefixOf 0x0f ≡ none
 unfolding prefixOf
 no-prefix-byte = refl
 
-sub4s-read : (src : ℕ → ℕ) → src 0 ≡ 0x0f → src 1 ≡ 0x22 → scan instruction src 0 ≡ known subtraction 2
-unfolding instruction
-sub4s-read src e f = scan-prefixes 0x0f 3 src 0 no-prefix (lit≤ tt) no-prefix-byte (begins-so src e) ∙ second-read src f
+sub4s-read : (w : World) → source w 0 ≡ 0x0f → source w 1 ≡ 0x22 → instructionIn w ≡ known subtraction 2
+unfolding instructionIn instruction
+sub4s-read w e f = scan-prefixes 0x0f 3 (source w) 0 no-prefix (lit≤ tt) no-prefix-byte (begins-so (source w) e) ∙ second-read (source w) f
 
 -- ---- the tree
 
@@ -90,7 +92,7 @@ closing c = affect (columns unknown (becomes (c .cy)) unknown unknown unknown (b
 
 -- one byte of each string
 digitsIn : World → Digits
-digitsIn u = digits true (readMem false (u .ram) (u .rom) (reg u DS1) (add16 (reg u IY) 0)) (readMem false (u .ram) (u .rom) (reg u DS0) (add16 (reg u IX) 0)) false
+digitsIn u = digits Subtraction (readMem false (u .ram) (u .rom) (reg u DS1) (add16 (reg u IY) 0)) (readMem false (u .ram) (u .rom) (reg u DS0) (add16 (reg u IX) 0)) false
 
 pswBy : World → Digits → ℕ
 pswBy u d = settled keeps (column (columns unknown (becomes (d .cy)) unknown unknown unknown (becomes (true && eqb (d .value) 0)))) (pswOf (u .state))
@@ -98,20 +100,20 @@ pswBy u d = settled keeps (column (columns unknown (becomes (d .cy)) unknown unk
 leftBy : World → Digits → World
 leftBy u d = world (withPsw (u .state) (pswBy u d)) (writeMem false (u .ram) (reg u DS1) (add16 (reg u IY) 0) (d .value)) (u .rom) (u .tape) (u .log)
 
-chained-one : (u : World) → (b : Bus) × (exec (chained true true inDs0 1 >>= closing) u ≡ ends tt (leftBy u (digitsIn u)) b)
+chained-one : (u : World) → (b : Bus) × (exec (chained Subtraction Stored inDs0 1 >>= closing) u ≡ ends tt (leftBy u (digitsIn u)) b)
 unfolding chained loop link closing digitsIn pswBy leftBy exec run runBy _>>=_
 chained-one u = (_, refl)
 
-string-is : (u : World) → exec (string true true inDs0) u ≡ exec (chained true true inDs0 ((readReg false (reg u) CL + 1) / 2) >>= closing) u
+string-is : (u : World) → exec (string Subtraction Stored inDs0) u ≡ exec (chained Subtraction Stored inDs0 ((readReg false (reg u) CL + 1) / 2) >>= closing) u
 unfolding string regValue closing exec run runBy _>>=_
 string-is u = refl
 
-string-ends : (u : World) → (readReg false (reg u) CL + 1) / 2 ≡ 1 → (b : Bus) × Ends Unit (string true true inDs0) u tt (leftBy u (digitsIn u)) b
+string-ends : (u : World) → (readReg false (reg u) CL + 1) / 2 ≡ 1 → (b : Bus) × Ends Unit (string Subtraction Stored inDs0) u tt (leftBy u (digitsIn u)) b
 string-ends u e =
     let (b, q) = chained-one u in
-    (b, record { is = string-is u ∙ subst (λ (k : ℕ). exec (chained true true inDs0 k >>= closing) u ≡ ends tt (leftBy u (digitsIn u)) b) (sym e) q })
+    (b, record { is = string-is u ∙ subst (λ (k : ℕ). exec (chained Subtraction Stored inDs0 k >>= closing) u ≡ ends tt (leftBy u (digitsIn u)) b) (sym e) q })
 
-module _ (w x : World) (b : Bus) (h : Ends Unit (string true true inDs0) (begun w (add16 (reg w PC) 2)) tt x b) where
+module _ (w x : World) (b : Bus) (h : Ends Unit (string Subtraction Stored inDs0) (begun w (add16 (reg w PC) 2)) tt x b) where
   execute-ends : Ends Bool (execute subtraction 2) w false x b
   unfolding execute operation untrapped computing decimal subtraction
   execute-ends = seq-registers _ (seq-set PC (add16 (reg w PC) 2) _ (seq-last _ h ends-pure))
@@ -192,7 +194,7 @@ module _ (w : World) (m n : ℕ) (hm : m < 100) (hn : n < 100) (s : Subtracting 
   sub4s-step =
       let (b, e) = string-ends u one-byte in
       let t = stepping-ends (starting subtraction w) (leftBy u (digitsIn u)) b e (starting-untraced w (s .untraced)) in
-      let d = as-done (step w) (leftBy u (digitsIn u)) b (ap seen (step-is w subtraction 2 (s .fit, s .good) (s .up) (sub4s-read (source w) (s .first) (s .second))) ∙ t .is) in
+      let d = as-done (step w) (leftBy u (digitsIn u)) b (ap seen (step-is w subtraction 2 (s .fit, s .good) (s .up) (sub4s-read w (s .first) (s .second))) ∙ t .is) in
       (leftBy u (digitsIn u), d .events, d .is, ram-left, cy-left)
 
   -- as code answers it

@@ -27,7 +27,11 @@ use Rattle.sheet.specs.Act.{Act, _>>=_, peek, poke}
 use Rattle.sheet.specs.Handler.{Event, Outcome, refused, done, kept, run, runBy, tally}
 use Rattle.sheet.specs.Contract.{ends, seen, exec}
 use Rattle.sheet.specs.Operand.{regValue}
-use Rattle.sheet.specs.Decimal.{link, chained, string}
+use Rattle.sheet.specs.declared.Way.{Way}
+use Rattle.sheet.specs.declared.Way.the-variants.{Addition, Subtraction}
+use Rattle.sheet.specs.declared.Storing.{Storing}
+use Rattle.sheet.specs.declared.Storing.the-variants.{Stored, NotStored}
+use Rattle.sheet.specs.Decimal.{stores, link, chained, string}
 use Rattle.sheet.specs.Traps.{push, pushPsw, pushPsPc, save, trap}
 use Rattle.sheet.specs.Stack.{frame, frames, prepare, stack}
 use Rattle.sheet.specs.Execute.{decimal, computing, moving, operation, execute}
@@ -133,20 +137,20 @@ of-stacks Dispose h = small (lit≤ tt) (of-stack Dispose h)
 
 -- ---- decimal strings: a byte of every three
 
-of-link : (sub stores : Bool) (seg i : ℕ) (c : Chain) → Drops Chain (link sub stores seg i c) 1
+of-link : (way : Way) (storing : Storing) (seg i : ℕ) (c : Chain) → Drops Chain (link way storing seg i c) 1
 unfolding link
-of-link sub stores seg i c =
-    seq of-registers λ r. seq of-peek λ a. seq of-peek λ b. seq (either-way stores of-poke (up (lit≤ tt) of-pure)) λ _. of-pure
+of-link way storing seg i c =
+    seq of-registers λ r. seq of-peek λ a. seq of-peek λ b. seq (either-way (stores storing) of-poke (up (lit≤ tt) of-pure)) λ _. of-pure
 
-of-string : (sub stores : Bool) (seg : ℕ) → Drops Unit (string sub stores seg) 128
+of-string : (way : Way) (storing : Storing) (seg : ℕ) → Drops Unit (string way storing seg) 128
 unfolding string chained regValue registers.readReg _>>=_
-of-string sub stores seg = of-get λ r. seq (up (mul-le-mul-right 1 (half-of-cl (r CL))) (of-loop (link sub stores seg) 1 (of-link sub stores seg) _ 0 _)) λ c. of-flags
+of-string way storing seg = of-get λ r. seq (up (mul-le-mul-right 1 (half-of-cl (r CL))) (of-loop (link way storing seg) 1 (of-link way storing seg) _ 0 _)) λ c. of-flags
 
 of-decimals : (i : Decimal) → Drops Unit (decimal i) 512
 unfolding decimal
-of-decimals (Add4s seg) = up (lit≤ tt) (of-string false true seg)
-of-decimals (Sub4s seg) = up (lit≤ tt) (of-string true true seg)
-of-decimals (Cmp4s seg) = up (lit≤ tt) (of-string true false seg)
+of-decimals (Add4s seg) = up (lit≤ tt) (of-string Addition Stored seg)
+of-decimals (Sub4s seg) = up (lit≤ tt) (of-string Subtraction Stored seg)
+of-decimals (Cmp4s seg) = up (lit≤ tt) (of-string Subtraction NotStored seg)
 of-decimals (Rol4 to) = small (lit≤ tt) (of-rol4 to)
 of-decimals (Ror4 to) = small (lit≤ tt) (of-ror4 to)
 

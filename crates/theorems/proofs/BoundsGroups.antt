@@ -43,7 +43,12 @@ use Rattle.sheet.specs.Convert.{cvtbd, cvtdb, cvtbw, cvtwl}
 use Rattle.sheet.specs.Convert as converting
 use Rattle.sheet.specs.Shift.{carryIn, shiftBy, shift}
 use Rattle.sheet.specs.Bits.{bitDone, bits}
-use Rattle.sheet.specs.Decimal.{adj4, adjb, link, chained, string, rol4, ror4}
+use Rattle.sheet.specs.declared.Way.{Way}
+use Rattle.sheet.specs.declared.Way.the-variants.{Addition, Subtraction}
+use Rattle.sheet.specs.declared.Storing.{Storing}
+use Rattle.sheet.specs.declared.Storing.the-variants.{Stored, NotStored}
+use Rattle.sheet.specs.Adjust.{adj4, adjb}
+use Rattle.sheet.specs.Decimal.{stores, link, chained, string, rol4, ror4}
 use Rattle.sheet.specs.Fields.{lengthOf, advance, insertInto, firstPart, secondPart, ins, window, ext}
 use Rattle.sheet.specs.Traps.{untrapped}
 use Rattle.sheet.specs.Execute.{calculate, multiply, convert, decimal, field}
@@ -141,13 +146,13 @@ of-multiply (Div w by) = seq (of-valueAt w by) λ b. seq of-registers λ r. of-d
 
 -- ---- adjustments and conversions
 
-of-adj4 : (sub : Bool) → Most Unit (adj4 sub) 0
+of-adj4 : (way : Way) → Most Unit (adj4 way) 0
 unfolding adj4 finish deposit
-of-adj4 sub = seq (of-regValue _ _) λ x. seq of-flag λ ac. seq of-flag λ cy. seq of-flags λ _. of-setReg _ _ _
+of-adj4 way = seq (of-regValue _ _) λ x. seq of-flag λ ac. seq of-flag λ cy. seq of-flags λ _. of-setReg _ _ _
 
-of-adjb : (sub : Bool) → Most Unit (adjb sub) 0
+of-adjb : (way : Way) → Most Unit (adjb way) 0
 unfolding adjb
-of-adjb sub = seq of-registers λ r. seq of-flag λ ac. seq of-flags λ _. of-set
+of-adjb way = seq of-registers λ r. seq of-flag λ ac. seq of-flags λ _. of-set
 
 of-converted : (ah al : ℕ) → Most Unit (converting.convert ah al) 0
 unfolding converting.convert
@@ -155,10 +160,10 @@ of-converted ah al = seq of-flags λ _. of-set
 
 pub of-convert : (i : Convert) → Most Unit (convert i) 0
 unfolding convert cvtbd cvtdb cvtbw cvtwl
-of-convert Adjba = of-adjb false
-of-convert Adj4a = of-adj4 false
-of-convert Adjbs = of-adjb true
-of-convert Adj4s = of-adj4 true
+of-convert Adjba = of-adjb Addition
+of-convert Adj4a = of-adj4 Addition
+of-convert Adjbs = of-adjb Subtraction
+of-convert Adj4s = of-adj4 Subtraction
 of-convert Cvtbd = seq (of-regValue _ _) λ x. of-converted _ _
 of-convert Cvtdb = seq (of-regValue _ _) λ x. seq (of-regValue _ _) λ y. of-converted _ _
 of-convert Cvtbw = seq (of-regValue _ _) λ x. of-set
@@ -199,17 +204,17 @@ of-bits op w to number = seq (of-amountOf number) λ n. seq (of-locate to) λ s.
 
 -- ---- decimal strings: at most 128 bytes, three accesses each
 
-of-link : (sub stores : Bool) (seg i : ℕ) (c : Chain) → Most Chain (link sub stores seg i c) 3
+of-link : (way : Way) (storing : Storing) (seg i : ℕ) (c : Chain) → Most Chain (link way storing seg i c) 3
 unfolding link
-of-link sub stores seg i c =
-    seq of-registers λ r. seq of-peek-byte λ a. seq of-peek-byte λ b. seq (either-way stores of-poke-byte (up (lit≤ tt) of-pure)) λ _. of-pure
+of-link way storing seg i c =
+    seq of-registers λ r. seq of-peek-byte λ a. seq of-peek-byte λ b. seq (either-way (stores storing) of-poke-byte (up (lit≤ tt) of-pure)) λ _. of-pure
 
 pub half-of-cl : (x : ℕ) → (x % 256 + 1) / 2 ≤ 128
 half-of-cl x = omega arith
 
-of-string : (sub stores : Bool) (seg : ℕ) → Most Unit (string sub stores seg) 384
+of-string : (way : Way) (storing : Storing) (seg : ℕ) → Most Unit (string way storing seg) 384
 unfolding string chained regValue readReg _>>=_
-of-string sub stores seg = of-get λ r. seq (up (mul-le-mul-right 3 (half-of-cl (r CL))) (of-loop (link sub stores seg) 3 (of-link sub stores seg) _ 0 _)) λ c. of-flags
+of-string way storing seg = of-get λ r. seq (up (mul-le-mul-right 3 (half-of-cl (r CL))) (of-loop (link way storing seg) 3 (of-link way storing seg) _ 0 _)) λ c. of-flags
 
 pub of-rol4 : (to : Place) → Most Unit (rol4 to) 4
 unfolding rol4
@@ -221,9 +226,9 @@ of-ror4 to = seq (of-regValue _ _) λ al. seq (of-locate to) λ s. seq (of-fetch
 
 pub of-decimal : (i : Decimal) → Most Unit (decimal i) 384
 unfolding decimal
-of-decimal (Add4s seg) = of-string false true seg
-of-decimal (Sub4s seg) = of-string true true seg
-of-decimal (Cmp4s seg) = of-string true false seg
+of-decimal (Add4s seg) = of-string Addition Stored seg
+of-decimal (Sub4s seg) = of-string Subtraction Stored seg
+of-decimal (Cmp4s seg) = of-string Subtraction NotStored seg
 of-decimal (Rol4 to) = up (lit≤ tt) (of-rol4 to)
 of-decimal (Ror4 to) = up (lit≤ tt) (of-ror4 to)
 

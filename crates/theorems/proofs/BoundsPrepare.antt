@@ -16,7 +16,7 @@ use Rattle.sheet.specs.declared.Instr.{Instr}
 use Rattle.sheet.specs.Groups.{Stacks}
 use Rattle.sheet.specs.Width.{wrapOf, sub16}
 use Rattle.sheet.specs.Psw.{Flag, BRK, Effect, flagOf, fixedOf, entering}
-use Rattle.sheet.specs.Registers.{SP, BP, PS, PC, PSW, File, fileOf}
+use Rattle.sheet.specs.Registers.{SP, BP, PC, PSW, File, fileOf}
 use Rattle.sheet.specs.Memory.{physical, byteAt, readMem, writeMem, busCycles, lost, lostBytes}
 use Rattle.sheet.specs.Memory as memory
 use Rattle.sheet.specs.World.{World, pswOf}
@@ -30,7 +30,7 @@ use Rattle.sheet.specs.Reading as reading
 use Rattle.sheet.specs.Reading.{scan, word}
 use Rattle.sheet.specs.Encoding.{prefixOf, lookUp}
 use Rattle.sheet.specs.FirstByte.{afterPrefix, prefixed, instruction}
-use Rattle.sheet.specs.Step.{fits, sound, interrupting, singleStep, loadsSegment, movesIn, starting, stepping, stepReport}
+use Rattle.sheet.specs.Step.{fits, sound, interrupting, singleStep, loadsSegment, movesIn, starting, stepping, stepReport, instructionIn}
 use Rattle.theorems.specs.Bounds.{Finds, Odd, OddIn, Makes, Loses, stepTop, dropTop, preparing, preparingInRom}
 use Rattle.theorems.proofs.BoundsRules.{even-cycles}
 use Rattle.theorems.proofs.BoundsOperands.{even-first, even-second}
@@ -269,7 +269,7 @@ odd-there : (psw : ℕ) → OddIn (preparing psw)
 odd-there psw = record { whole = refl; sp = refl; bp = refl }
 
 found : (psw : ℕ) → fixedOf psw ≡ true → Finds (preparing psw) (prepareAt 0) 4
-unfolding fits sound scan instruction prefixed prefixOf afterPrefix lookUp word reading._>>=_ byteAt
+unfolding fits sound instructionIn scan instruction prefixed prefixOf afterPrefix lookUp word reading._>>=_ byteAt
 found psw e = record { fit = refl; good = rw e; up = refl; there = refl }
 
 pub reaches-1020 : Makes (preparing 0xf002) 1020
@@ -279,7 +279,7 @@ pub reaches-1028 : Makes (preparing 0xf102) stepTop
 reaches-1028 = prepare-1028 (preparing 0xf102) 0 4 (found 0xf102 refl) (odd-there 0xf102) refl refl (lit≤ tt)
 
 found-in-rom : Finds preparingInRom (prepareAt 0) 4
-unfolding fits sound scan instruction prefixed prefixOf afterPrefix lookUp word reading._>>=_ byteAt
+unfolding fits sound instructionIn scan instruction prefixed prefixOf afterPrefix lookUp word reading._>>=_ byteAt
 found-in-rom = record { fit = refl; good = refl; up = refl; there = refl }
 
 pub reaches-518 : Loses preparingInRom dropTop

@@ -19,10 +19,10 @@ use Rattle.sheet.specs.Registers.{PS, PC, fileOf}
 use Rattle.sheet.specs.World.{World, pswOf}
 use Rattle.sheet.specs.Handler.{Event, Outcome, done, kept, run, runBy, tally}
 use Rattle.sheet.specs.Contract.{Seen, stops, ends, seen, exec}
-use Rattle.sheet.specs.Reading.{Read, known, unknown, scan}
+use Rattle.sheet.specs.Reading.{Read, known, unknown}
 use Rattle.sheet.specs.FirstByte.{instruction}
 use Rattle.sheet.specs.Execute.{computing, moving, operation, execute}
-use Rattle.sheet.specs.Step.{fits, sound, checked, refusal, codeAt, source, interrupting, singleStep, starting, stepping, decoded, awake, stepBy, step, interruptBy, interrupt}
+use Rattle.sheet.specs.Step.{fits, sound, checked, refusal, codeAt, source, interrupting, singleStep, starting, stepping, decoded, awake, stepBy, step, interruptBy, interrupt, instructionIn}
 use Rattle.sheet.specs.Act.{_>>=_}
 use Rattle.sheet.specs.Traps.{push, pushPsw, pushPsPc, jumpFar, save, trap}
 use Rattle.theorems.specs.Repeat.{ofMemory}
@@ -95,13 +95,14 @@ of-stepping i h n = seq (any of-flag) λ traced. seq (of-execute i h n) λ trapp
 
 -- ---- the bytes of the instruction
 
-pub reads-fine : (w : World) → Bytes (w .ram) → Bytes (w .rom) → ScannedTo 4 Fine (scan instruction (source w) 0)
+pub reads-fine : (w : World) → Bytes (w .ram) → Bytes (w .rom) → ScannedTo 4 Fine (instructionIn w)
+unfolding instructionIn
 reads-fine w h g = scanned instruction of-instruction (source w) (λ j. byte-top (w .ram) (w .rom) h g (codeAt (fileOf (w .state .file) PS) (fileOf (w .state .file) PC) j)) 0
 
 -- ---- the calls
 
 -- a step that is to be made does the instruction that it finds
-pub step-is : (w : World) (i : Instr) (n : ℕ) → (fits w ≡ true) × (sound w ≡ true) → w .state .marks .halted ≡ false → scan instruction (source w) 0 ≡ known i n → step w ≡ run (stepping i n) (starting i w)
+pub step-is : (w : World) (i : Instr) (n : ℕ) → (fits w ≡ true) × (sound w ≡ true) → w .state .marks .halted ≡ false → instructionIn w ≡ known i n → step w ≡ run (stepping i n) (starting i w)
 unfolding step run
 step-is w i n good up there = step-on w good ∙ awake-known w i n up there
 
@@ -131,7 +132,7 @@ checked-comes {n} {l} w o h =
 -- every step, of any machine over memory of bytes
 pub step-comes : (w : World) → Bytes (w .ram) → Bytes (w .rom) → Comes stepTop stepRefusals (seen (step w))
 unfolding step stepBy awake decoded exec run
-step-comes w h g = checked-comes w (awake kept w) (go (w .state .marks .halted) (scan instruction (source w) 0) (reads-fine w h g))
+step-comes w h g = checked-comes w (awake kept w) (go (w .state .marks .halted) (instructionIn w) (reads-fine w h g))
   where
     go : (t : Bool) (r : Read Instr) → ScannedTo 4 Fine r → Comes stepTop stepRefusals (seen (pick t (refusal 8) (decoded kept r w)))
     go false (known i n) (read q) = within-step _ (of-stepping i q n .at (starting i w))

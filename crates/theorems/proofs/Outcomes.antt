@@ -4,8 +4,7 @@ use mathlib.Core.Path.{_≡_, refl, sym, ap, subst, _∙_}
 use mathlib.Core.Bool.{Bool, true, false, not, _&&_, and-eq-true-iff}
 use mathlib.Core.List.{List, []}
 use mathlib.Core.Option.{Option, none, some}
-use native.Mathlib.Nat.{add-zero, add-assoc, add-comm}
-use native.Mathlib.Numerals.{add-one}
+use native.Mathlib.Nat.{add-zero}
 use native.Mathlib.Omega.{arith}
 use lib.ListN.{length, drop, length-drop}
 use lib.Dec.{leb}
@@ -21,13 +20,13 @@ use Rattle.sheet.specs.Psw.{IE, flagOf, fixedOf}
 use Rattle.sheet.specs.Registers.{PS, PC, fileOf}
 use Rattle.sheet.specs.Log.{rule, recordAt, entryOf, readLog}
 use Rattle.sheet.specs.World.{World, pswOf}
-use Rattle.sheet.specs.Handler.{Event, Outcome, refused, done, kept, run, runBy, tally}
-use Rattle.sheet.specs.Contract.{Seen, stops, ends, seen}
+use Rattle.sheet.specs.Handler.{Outcome, refused, done, kept, run, runBy}
+use Rattle.sheet.specs.Contract.{Seen, stops, seen}
 use Rattle.sheet.specs.Reading as reading
 use Rattle.sheet.specs.Reading.{Read, known, unknown, scan}
 use Rattle.sheet.specs.Encoding.{Prefix, unprefixed, withPrefix, prefixOf, lookUp}
 use Rattle.sheet.specs.FirstByte.{firstBytes, afterPrefix, prefixed, instruction}
-use Rattle.sheet.specs.Step.{fits, placesGood, sound, refusal, source, codeAt, starting, stepping, decoded, awake, stepBy, step, interrupting, interruptBy, interrupt}
+use Rattle.sheet.specs.Step.{fits, placesGood, sound, refusal, source, codeAt, starting, stepping, decoded, awake, stepBy, step, interrupting, interruptBy, interrupt, instructionIn}
 use Rattle.portlog.proofs.Records.{end-empty}
 use Rattle.portlog.proofs.Whole.{end-read}
 use Rattle.theorems.specs.Bounds.{Bytes}
@@ -142,25 +141,25 @@ fourth-met (suc room) p src i h =
     let (n, q) = fourth-met room (withPrefix p x) src (i + 1) later in
     (n, subst (λ (o : Option Prefix). scan (afterPrefix o (λ x. prefixed room (withPrefix p x)) (lookUp (firstBytes p) (src i))) src (i + 1) ≡ unknown 4 n) (sym e) q)
 
-opened-all : (src : ℕ → ℕ) → ((j : ℕ) → src j ≤ 255) → Opened 3 src 0 (scan instruction src 0)
-unfolding instruction
-opened-all src h = opened 3 unprefixed src h 0
+source-top : (w : World) → Bytes (w .ram) → Bytes (w .rom) → (j : ℕ) → source w j ≤ 255
+source-top w h g j = byte-top (w .ram) (w .rom) h g (codeAt (fileOf (w .state .file) PS) (fileOf (w .state .file) PC) j)
+
+opened-all : (w : World) → Bytes (w .ram) → Bytes (w .rom) → Opened 3 (source w) 0 (instructionIn w)
+unfolding instructionIn instruction
+opened-all w h g = opened 3 unprefixed (source w) (source-top w h g) 0
 
 from-zero : (src : ℕ → ℕ) → ((j : ℕ) → j < 4 → IsPrefix (src j)) → (j : ℕ) → j < 4 → IsPrefix (src (0 + j))
 from-zero src h j l = let z : j ≡ 0 + j = omega arith in subst (λ k. IsPrefix (src k)) z (h j l)
 
-fourth-all : (src : ℕ → ℕ) → ((j : ℕ) → j < 4 → IsPrefix (src j)) → (n : ℕ) × (scan instruction src 0 ≡ unknown 4 n)
-unfolding instruction
-fourth-all src h = fourth-met 3 unprefixed src 0 (from-zero src h)
+fourth-all : (w : World) → ((j : ℕ) → j < 4 → IsPrefix (source w j)) → (n : ℕ) × (instructionIn w ≡ unknown 4 n)
+unfolding instructionIn instruction
+fourth-all w h = fourth-met 3 unprefixed (source w) 0 (from-zero (source w) h)
 
 -- ---- a step is of a row
 
-source-top : (w : World) → Bytes (w .ram) → Bytes (w .rom) → (j : ℕ) → source w j ≤ 255
-source-top w h g j = byte-top (w .ram) (w .rom) h g (codeAt (fileOf (w .state .file) PS) (fileOf (w .state .file) PC) j)
-
 module _ (w : World) (p : Passes w) (up : w .state .marks .halted ≡ false) where
   -- by what the instruction's tree comes to
-  executed : (i : Instr) (n : ℕ) → scan instruction (source w) 0 ≡ known i n → (o : Outcome Unit) → runBy kept (stepping i n) (starting i w) ≡ o
+  executed : (i : Instr) (n : ℕ) → instructionIn w ≡ known i n → (o : Outcome Unit) → runBy kept (stepping i n) (starting i w) ≡ o
       → ComesIn (starting i w) (accessOf w i) o → StepOf w (seen o)
   unfolding starting run
   executed i n r (refused k t) e (tape-short z h) = rw z (short-tape p up r h)
@@ -168,7 +167,7 @@ module _ (w : World) (p : Passes w) (up : w .state .marks .halted ≡ false) whe
   executed i n r (done tt v t) e (goes g h q) = finished p up r g h e
 
   -- by what was read
-  was-read : (r : Read Instr) → scan instruction (source w) 0 ≡ r → ScannedTo 4 Fine r → Opened 3 (source w) 0 r → StepOf w (seen (decoded kept r w))
+  was-read : (r : Read Instr) → instructionIn w ≡ r → ScannedTo 4 Fine r → Opened 3 (source w) 0 r → StepOf w (seen (decoded kept r w))
   unfolding decoded
   was-read (known i n) e (read f) o = executed i n e (runBy kept (stepping i n) (starting i w)) refl (stepping-comes w p i f n)
   was-read (unknown k n) e (unread a b) (by-table (unread c d)) = let z : k ≡ 3 = omega arith in rw z (no-instruction p up (rw z at e))
@@ -181,11 +180,11 @@ unfolding step stepBy awake
 step-is-of w h g = go (fits w) (sound w) (w .state .marks .halted) refl (checks w)
   where
     go : (f s a : Bool) → w .state .marks .halted ≡ a → Checked w f s
-        → StepOf w (seen (pick f (pick s (pick a (refusal 8) (decoded kept (scan instruction (source w) 0) w)) (refusal 2)) (refusal 1)))
+        → StepOf w (seen (pick f (pick s (pick a (refusal 8) (decoded kept (instructionIn w) w)) (refusal 2)) (refusal 1)))
     go false s a e (over l) = too-large l
     go true false a e (wrong l u) = unsound l u
     go true true true e (fine p) = asleep p e
-    go true true false e (fine p) = was-read w p e (scan instruction (source w) 0) refl (reads-fine w h g) (opened-all (source w) (source-top w h g))
+    go true true false e (fine p) = was-read w p e (instructionIn w) refl (reads-fine w h g) (opened-all w h g)
 
 -- ---- and of no other
 
@@ -200,10 +199,10 @@ stops-by-6 (log-short z k l) g h = rw z
 stops-by-6 (goes k l q) g h = absurd (omega arith)
 
 module _ (w : World) (h : Bytes (w .ram)) (g : Bytes (w .rom)) where
-  fine-of : {i : Instr} {n : ℕ} → scan instruction (source w) 0 ≡ known i n → Fine i
+  fine-of : {i : Instr} {n : ℕ} → instructionIn w ≡ known i n → Fine i
   fine-of r = fine-read (rw r at (reads-fine w h g))
 
-  made : {i : Instr} {n : ℕ} → Passes w → w .state .marks .halted ≡ false → scan instruction (source w) 0 ≡ known i n → seen (step w) ≡ seen (run (stepping i n) (starting i w))
+  made : {i : Instr} {n : ℕ} → Passes w → w .state .marks .halted ≡ false → instructionIn w ≡ known i n → seen (step w) ≡ seen (run (stepping i n) (starting i w))
   made {i} {n} p e r = ap seen (step-is w i n (fits-so w (p .fit), sound-so w p) e r)
 
   pub step-only : {s : Seen Unit} → StepOf w s → seen (step w) ≡ s
@@ -211,8 +210,8 @@ module _ (w : World) (h : Bytes (w .ram)) (g : Bytes (w .rom)) where
   step-only (too-large l) = rw (fits-not w l)
   step-only (unsound l u) = rw (fits-so w l, sound-not w u)
   step-only (asleep p e) = rw (fits-so w (p .fit), sound-so w p, e)
-  step-only (fourth-prefix p e q) = rw (fits-so w (p .fit), sound-so w p, e, fourth-all (source w) q .1)
-  step-only (no-instruction p e r) = rw (fits-so w (p .fit), sound-so w p, e, r)
+  step-only (fourth-prefix p e q) = rw (fits-so w (p .fit), sound-so w p, fourth-all w q .1, e)
+  step-only (no-instruction p e r) = rw (fits-so w (p .fit), sound-so w p, r, e)
   step-only (short-tape {i = i} {n = n} p e r l) = made p e r ∙ stops-by-5 (stepping-comes w p i (fine-of r) n) l
   step-only (full-log {i = i} {n = n} p e r k l) = made p e r ∙ stops-by-6 (stepping-comes w p i (fine-of r) n) k l
   step-only (finished p e r k l q) = made p e r ∙ ap seen q

@@ -14,10 +14,10 @@ use Rattle.sheet.specs.Registers.{CW, IX, IY, DS1, PS, PC, fileOf, segment}
 use Rattle.sheet.specs.Memory.{byteAt}
 use Rattle.sheet.specs.World.{World, pswOf}
 use Rattle.sheet.specs.Handler.{Event, Outcome, refused, done, kept, happened}
-use Rattle.sheet.specs.Reading.{known, scan}
+use Rattle.sheet.specs.Reading.{known}
 use Rattle.sheet.specs.FirstByte.{instruction}
 use Rattle.sheet.specs.Step as sheet
-use Rattle.sheet.specs.Step.{fits, sound, refusal, codeAt, source, awake, stepBy, step, interrupt}
+use Rattle.sheet.specs.Step.{fits, sound, refusal, codeAt, source, awake, stepBy, step, interrupt, instructionIn}
 use Rattle.sheet.proofs.ReadingLaws.{scan-rests}
 use Rattle.sheet.proofs.Lent.{Lent, Sound, Good, lent-refl}
 use Rattle.sheet.proofs.StepLaws.{sound-is, step-leaves, interrupt-leaves}
@@ -66,7 +66,7 @@ atStart i w = sheet.starting (Blocks (i .kind) (i .word) (i .seg) (i .repeat)) w
 
 -- what is read at PS:PC is what the step does
 pub turned : (w : World) (i : Block) {file ram : List ℕ} {events : List Event} → Ready w
-    → scan instruction (source w) 0 ≡ known (Blocks (i .kind) (i .word) (i .seg) (i .repeat)) (i .size)
+    → instructionIn w ≡ known (Blocks (i .kind) (i .word) (i .seg) (i .repeat)) (i .size)
     → (made : Turned (i .kind) (i .word) (i .seg) (i .repeat) (i .size) (atStart i w) file ram events) → step w ≡ done tt (made .v) (made .t)
 turned w i r e made = step-is w _ (i .size) (r .fit, r .good) (r .up) e ∙ made .ran .is
 
@@ -205,7 +205,8 @@ module _ (E : Engine) (F : Faithful E) (i : Block) (w : World) (t : Taken E i w)
 
   -- the instruction is read again
   still-read : {j : ℕ} {l : List (E .Shown)} {v : World} → j ≤ reg w CW → Inv (reg w PC) j l v
-      → scan instruction (source v) 0 ≡ known (Blocks (i .kind) (i .word) (i .seg) (i .repeat)) (i .size)
+      → instructionIn v ≡ known (Blocks (i .kind) (i .word) (i .seg) (i .repeat)) (i .size)
+  unfolding instructionIn
   still-read {j} {l} {v} h x =
       let f : List ℕ = singles i w j .state .file in
       let r = placed-reads (reg w CW - j) (reg w PC) f (keep j .long) in

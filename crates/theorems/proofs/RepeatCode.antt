@@ -18,7 +18,6 @@ use Rattle.theorems.specs.RepeatEngines.{accesses, Tells, accepts, refus
 use Rattle.theorems.specs.RepeatCode.{StepCall, step-call, InterruptCall, interrupt-call, code, total, eventsOf}
 use Rattle.theorems.proofs.Repeat.{Faithful, demand3}
 use Rattle.theorems.proofs.BoundsStep.{at-most-1028}
-use Rattle.engine.proofs.RunLaws.{tally-both}
 
 -- what a report tells
 abbrev Told : World → Outcome Unit → Report → Type 0
@@ -74,6 +73,11 @@ code-answers w whole ram rom = go (step w) refl
         answer w 0 (v .state) (v .ram) (v .log) (tally t) (at-most-1028 w v t ram rom e) (rw (e, ← g .rom-same, ← g .tape-same))
 
 -- ---- the own steps' cycles and dropped bytes together
+
+pub tally-both : (t u : List Event) → tally (t ++ u) ≡ tally t ⊕ tally u
+unfolding tally
+tally-both [] u = sym (no-first (tally u))
+tally-both (e ∷ t) u = rw (tally-both t u) (sym (⊕-assoc (cost e) (tally t) (tally u)))
 
 total-last : (l : List Bus) (n : Bus) → total (l ++ (n ∷ [])) ≡ total l ⊕ n
 unfolding total

@@ -27,7 +27,7 @@ use Rattle.sheet.specs.Reading as reading
 use Rattle.sheet.specs.Reading.{known, scan}
 use Rattle.sheet.specs.Encoding.{prefixOf, lookUp}
 use Rattle.sheet.specs.FirstByte.{afterPrefix, prefixed, instruction}
-use Rattle.sheet.specs.Step.{fits, sound, codeAt, source, interrupting, singleStep, loadsSegment, starting, stepping, decoded, awake, stepBy, step, interruptBy, interrupt, stepReport, interruptReport}
+use Rattle.sheet.specs.Step.{fits, sound, codeAt, interrupting, singleStep, loadsSegment, starting, stepping, decoded, awake, stepBy, step, interruptBy, interrupt, stepReport, interruptReport, instructionIn}
 use Rattle.theorems.specs.StandIns.{machine}
 use Rattle.theorems.specs.Repeat.{Block, single, singles, firstOr, elements, reg, walk, low, Kept, own-byte, source-byte, target-byte, NeverOnItself, stepped, no-call, and-then, Restores, Engine, Gap, quiet, service, begun, next-own, Taken, Demand3}
 use Rattle.theorems.specs.RepeatEngines.{accesses, accepts, engine, definition}
@@ -75,7 +75,7 @@ back = machine (words 2 64 81 85 64 0xf202) false 3 (memory pushed (1 ∷ 0 ∷ 
 
 -- whoever unfolds this unfolds what these steps need of the definition
 unfoldable pub opened : ℕ
-unfolding wrapOf settled byteAt readMem writeMem act._>>=_ runBy run push pop pushPsw pushPsPc jumpFar save trap reti interrupts control countDown steppedOf stepIndex sourceElement targetElement setTarget primitive goesOnAfter afterElement element repeated block untrapped operation execute reading._>>=_ scan prefixOf lookUp afterPrefix prefixed instruction fits sound interrupting singleStep loadsSegment starting stepping decoded awake stepBy step interruptBy interrupt
+unfolding wrapOf settled byteAt readMem writeMem act._>>=_ runBy run push pop pushPsw pushPsPc jumpFar save trap reti interrupts control countDown steppedOf stepIndex sourceElement targetElement setTarget primitive goesOnAfter afterElement element repeated block untrapped operation execute reading._>>=_ scan prefixOf lookUp afterPrefix prefixed instruction instructionIn fits sound interrupting singleStep loadsSegment starting stepping decoded awake stepBy step interruptBy interrupt
 opened = 0
 
 pub first : step start ≡ done tt after-one (happened (step start))
@@ -134,7 +134,7 @@ apart (suc zero) c a h t (low e) r l o = omega (arith, own-low a c l o)
 apart (suc (suc zero)) c a h t (low e) r l o = omega (arith, own-low a c l o)
 apart (suc (suc (suc j))) c a h t (low e) r l o = omega arith
 
-pub reads-move3 : scan instruction (source start) 0 ≡ known (Blocks Movbk false inPs WhileZ) 3
+pub reads-move3 : instructionIn start ≡ known (Blocks Movbk false inPs WhileZ) 3
 unfolding opened
 reads-move3 = refl
 

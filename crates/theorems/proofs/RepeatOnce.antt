@@ -10,10 +10,9 @@ use Rattle.sheet.specs.Psw.{BRK, flagOf}
 use Rattle.sheet.specs.Registers.{CW, PC}
 use Rattle.sheet.specs.World.{World, pswOf}
 use Rattle.sheet.specs.Handler.{Event, done, happened}
-use Rattle.sheet.specs.Reading.{known, scan}
-use Rattle.sheet.specs.FirstByte.{instruction}
+use Rattle.sheet.specs.Reading.{known}
 use Rattle.sheet.specs.Step as sheet
-use Rattle.sheet.specs.Step.{source, step}
+use Rattle.sheet.specs.Step.{step, instructionIn}
 use Rattle.theorems.specs.Repeat.{Block, ofMemory, single, left, singles, reg, past, placed}
 use Rattle.theorems.specs.RepeatEngines.{accesses}
 use Rattle.theorems.proofs.Repeat.{Ready, atStart, turned}
@@ -31,7 +30,7 @@ pub record DoesOnce (i : Block) (w : World) : Type 0 where
   pub ram : v .ram ≡ left w (single i w) .ram
   pub shows : accesses events ≡ accesses (happened (single i w))
 
-pub single-steps : (i : Block) (w : World) → scan instruction (source w) 0 ≡ known (Blocks (i .kind) (i .word) (i .seg) (i .repeat)) (i .size)
+pub single-steps : (i : Block) (w : World) → instructionIn w ≡ known (Blocks (i .kind) (i .word) (i .seg) (i .repeat)) (i .size)
     → ofMemory (i .kind) ≡ true → i .repeat ≡ Once → Ready w → length (w .state .file) ≡ 14 → flagOf (pswOf (w .state)) BRK ≡ false → DoesOnce i w
 unfolding sheet.starting sheet.loadsSegment singles
 single-steps i w read m once ready long clear =

@@ -2,15 +2,15 @@
 use Prim.Native.Nat.{ℕ, _≤_}
 use mathlib.Core.Path.{_≡_, refl, sym, _∙_, ap}
 use mathlib.Core.Bool.{true}
-use mathlib.Core.List.{[], append-nil}
+use mathlib.Core.List.{[]}
 use native.Mathlib.Omega.{arith}
 use lib.ListN.{getD}
 use lib.Dec.{lit≤, lit<}
 use Rattle.sheet.specs.Registers.{PC}
 use Rattle.sheet.specs.World.{World}
-use Rattle.sheet.specs.Handler.{refused, nothing, tally}
+use Rattle.sheet.specs.Handler.{refused, nothing}
 use Rattle.sheet.specs.Step.{fits, sound, awake, stepBy, step}
-use Rattle.sheet.specs.Run.{runs, RunReport, runReported, ranReport}
+use Rattle.sheet.specs.Run.{runs, tallyAll, RunReport, runReported, ranReport}
 use Rattle.sheet.proofs.SmallTable.{small-table}
 use Rattle.engine.proofs.RunLaws.{Done}
 use Rattle.theorems.specs.Runs.{none, step-then, spent, stopped}
@@ -25,17 +25,17 @@ one-step : Done (step subtracting) subtracted (record { cycles = 3; dropped = 0 
 one-step = step-done subtracting subtracted (record { cycles = 3; dropped = 0 }) (bytes-of (subtracting .ram) refl) (bytes-of (subtracting .rom) refl) (small-table .sub4s)
 
 run-one : ranReport (runs 1 subtracting) ≡ runReported 0 subtracted 1 (record { cycles = 3; dropped = 0 })
-unfolding fits sound
+unfolding fits sound tallyAll
 run-one =
     let r = run-only 1 subtracting _ (spent refl refl (step-then (one-step .is) none)) in
-    rw (r, append-nil (one-step .events), one-step .sum)
+    rw (r, one-step .sum)
 
 asleep-refuses : step asleep ≡ refused 8 []
 unfolding step stepBy awake fits sound
 asleep-refuses = refl
 
 run-asleep : ranReport (runs 5 asleep) ≡ runReported 8 asleep 0 nothing
-unfolding fits sound tally
+unfolding fits sound tallyAll
 run-asleep = rw (run-only 5 asleep _ (stopped refl refl (lit< tt) none asleep-refuses))
 
 -- ---- engines

@@ -11,9 +11,8 @@ use Rattle.sheet.specs.Registers.{SP, BP}
 use Rattle.sheet.specs.Handler.{Event, reads, writes, takes, gives, asks, copies, changes}
 use Rattle.sheet.specs.World.{World, world, marksOf}
 use Rattle.sheet.specs.Contract.{Seen, stops, ends, report}
-use Rattle.sheet.specs.Reading.{known, scan}
-use Rattle.sheet.specs.FirstByte.{instruction}
-use Rattle.sheet.specs.Step.{fits, sound, source, stepReport}
+use Rattle.sheet.specs.Reading.{known}
+use Rattle.sheet.specs.Step.{fits, sound, stepReport, instructionIn}
 use Rattle.theorems.specs.StandIns.{machine}
 
 -- a lent buffer holds bytes
@@ -74,7 +73,7 @@ pub record Finds (w : World) (i : Instr) (n : ℕ) : Type 0 where
   pub fit : fits w ≡ true
   pub good : sound w ≡ true
   pub up : w .state .marks .halted ≡ false
-  pub there : scan instruction (source w) 0 ≡ known i n
+  pub there : instructionIn w ≡ known i n
 
 -- fourteen registers, SP and BP odd
 pub record Odd (f : List ℕ) : Type 0 where

@@ -8,7 +8,7 @@ use Rattle.sheet.specs.declared.State.{State}
 use Rattle.sheet.specs.declared.Entry.{Entry}
 use Rattle.sheet.specs.declared.Entry.the-variants.{Record, End}
 use Rattle.sheet.specs.World.{World, world}
-use Rattle.sheet.specs.Handler.{Event}
+use Rattle.sheet.specs.Run.{FinishedStep}
 use Rattle.portlog.specs.Whole.{Row}
 use Rattle.logreader.specs.Answer.{Answers}
 use Rattle.engine.specs.Runs.{Runs}
@@ -23,13 +23,13 @@ pub data RunCall (budget : ℕ) (w : World) : ℕ → World → ℕ → Bus → 
 
 -- whatever was called, from a world on, and whatever was answered: the finished steps so far, and the world that all led to. A world that
 -- is handed on is one that code can be lent, by its types; so is what a run of any smaller budget answers
-pub data Called (w : World) : List (List Event) → World → Type 0 where
+pub data Called (w : World) : List FinishedStep → World → Type 0 where
   nothing-yet : Called w [] w
-  then-step : {l : List (List Event)} {u v : World} {number : ℕ} {n : Bus} → Called w l u → lendable u ≡ true → StepCall u number v n
+  then-step : {l : List FinishedStep} {u v : World} {number : ℕ} {n : Bus} → Called w l u → lendable u ≡ true → StepCall u number v n
       → Called w (l ++ stepsFrom 1 u) v
-  then-run : {l : List (List Event)} {u v : World} {budget number k : ℕ} {n : Bus} → Called w l u → ((j : ℕ) → j < budget → lendable (worldAfter j u) ≡ true) → RunCall budget u number v k n
+  then-run : {l : List FinishedStep} {u v : World} {budget number k : ℕ} {n : Bus} → Called w l u → ((j : ℕ) → j < budget → lendable (worldAfter j u) ≡ true) → RunCall budget u number v k n
       → Called w (l ++ stepsFrom budget u) v
-  then-interrupt : {l : List (List Event)} {u v : World} {vector number : ℕ} {maskable : Bool} {n : Bus} → Called w l u → InterruptCall vector maskable u number v n
+  then-interrupt : {l : List FinishedStep} {u v : World} {vector number : ℕ} {maskable : Bool} {n : Bus} → Called w l u → InterruptCall vector maskable u number v n
       → Called w l v
 
 -- whatever `logreader` answers from a place of a log on: these records, and then the end

@@ -12,12 +12,11 @@ use Rattle.sheet.specs.declared.Entry.the-variants as entry
 use Rattle.sheet.specs.Psw.{IE, flagOf, fixedOf}
 use Rattle.sheet.specs.Log.{rule, risen, recordAt}
 use Rattle.sheet.specs.World.{World, pswOf}
-use Rattle.sheet.specs.Handler.{Event, Outcome, refused, done, run, tally}
+use Rattle.sheet.specs.Handler.{Event, done, run, tally}
 use Rattle.sheet.specs.Contract.{Seen, stops, ends}
-use Rattle.sheet.specs.Reading.{known, unknown, scan}
+use Rattle.sheet.specs.Reading.{known, unknown}
 use Rattle.sheet.specs.Encoding.{Prefix, prefixOf}
-use Rattle.sheet.specs.FirstByte.{instruction}
-use Rattle.sheet.specs.Step.{source, starting, stepping, interrupting}
+use Rattle.sheet.specs.Step.{source, starting, stepping, interrupting, instructionIn}
 use Rattle.theorems.specs.Access.{accessOf, tapeNeed, logNeed}
 
 -- ---- what every call checks first
@@ -57,16 +56,16 @@ pub data StepOf (w : World) : Seen Unit → Type 0 where
   -- 4: a fourth prefix byte is met
   fourth-prefix : Passes w → w .state .marks .halted ≡ false → ((j : ℕ) → j < 4 → IsPrefix (source w j)) → StepOf w (stops 4)
   -- 3: the bytes name no instruction that is in
-  no-instruction : {n : ℕ} → Passes w → w .state .marks .halted ≡ false → scan instruction (source w) 0 ≡ unknown 3 n → StepOf w (stops 3)
+  no-instruction : {n : ℕ} → Passes w → w .state .marks .halted ≡ false → instructionIn w ≡ unknown 3 n → StepOf w (stops 3)
   -- 5: fewer tape bytes remain than a port read needs
-  short-tape : {i : Instr} {n : ℕ} → Passes w → w .state .marks .halted ≡ false → scan instruction (source w) 0 ≡ known i n
+  short-tape : {i : Instr} {n : ℕ} → Passes w → w .state .marks .halted ≡ false → instructionIn w ≡ known i n
       → length (w .tape) < w .state .progress .tape + tapeNeed (accessOf w i) → StepOf w (stops 5)
   -- 6: the log has less room than this record needs
-  full-log : {i : Instr} {n : ℕ} → Passes w → w .state .marks .halted ≡ false → scan instruction (source w) 0 ≡ known i n
+  full-log : {i : Instr} {n : ℕ} → Passes w → w .state .marks .halted ≡ false → instructionIn w ≡ known i n
       → w .state .progress .tape + tapeNeed (accessOf w i) ≤ length (w .tape)
       → length (w .log) < w .state .progress .log + logNeed (risen rule (w .state .progress .count)) (accessOf w i) → StepOf w (stops 6)
   -- 0: done
-  finished : {i : Instr} {n : ℕ} {v : World} {t : List Event} → Passes w → w .state .marks .halted ≡ false → scan instruction (source w) 0 ≡ known i n
+  finished : {i : Instr} {n : ℕ} {v : World} {t : List Event} → Passes w → w .state .marks .halted ≡ false → instructionIn w ≡ known i n
       → w .state .progress .tape + tapeNeed (accessOf w i) ≤ length (w .tape)
       → w .state .progress .log + logNeed (risen rule (w .state .progress .count)) (accessOf w i) ≤ length (w .log)
       → run (stepping i n) (starting i w) ≡ done tt v t → StepOf w (ends tt v (tally t))

@@ -16,10 +16,9 @@ use Rattle.sheet.specs.Registers.{CW, IX, IY, DS1, PS, PC, fileOf, segment}
 use Rattle.sheet.specs.Memory.{physical, next, byteAt}
 use Rattle.sheet.specs.World.{World, pswOf}
 use Rattle.sheet.specs.Handler.{Event, Outcome, refused, done, run, happened}
-use Rattle.sheet.specs.Reading.{known, scan}
-use Rattle.sheet.specs.FirstByte.{instruction}
+use Rattle.sheet.specs.Reading.{known}
 use Rattle.sheet.specs.Block.{steppedOf, primitive}
-use Rattle.sheet.specs.Step.{codeAt, source}
+use Rattle.sheet.specs.Step.{codeAt, instructionIn}
 
 -- ---- the instruction
 
@@ -205,7 +204,7 @@ module _ (E : Engine) where
 
   -- what demand 3 takes: an accepted repeated block instruction at PS:PC, BRK clear, that never writes on its own bytes
   pub record Taken (i : Block) (w : World) : Type 0 where
-    pub read : scan instruction (source w) 0 ≡ known (Blocks (i .kind) (i .word) (i .seg) (i .repeat)) (i .size)
+    pub read : instructionIn w ≡ known (Blocks (i .kind) (i .word) (i .seg) (i .repeat)) (i .size)
     pub blocks : ofMemory (i .kind) ≡ true
     pub repeated : repeats (i .repeat) ≡ true
     pub accepted : (v : World) × (o : E .Shown) × E .Step w 0 v o

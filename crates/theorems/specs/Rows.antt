@@ -6,6 +6,7 @@ use Rattle.sheet.specs.Log.{rule, keyOf}
 use Rattle.sheet.specs.World.{World}
 use Rattle.sheet.specs.Handler.{Event, reads, writes, takes, gives, asks, copies, changes, Outcome, refused, done}
 use Rattle.sheet.specs.Step.{step}
+use Rattle.sheet.specs.Run.{FinishedStep, begunIn}
 use Rattle.portlog.specs.Whole.{Row}
 
 -- what an event is to the log: nothing, or an access to a port
@@ -44,25 +45,25 @@ unfoldable pub since : ℕ → List Event → ℕ
 since n [] = n
 since n (e ∷ t) = since (sinceUse n (useOf e)) t
 
--- the records of finished steps, each with its own events, n steps after the record before
-unfoldable pub rowsAlong : ℕ → List (List Event) → List Row
+-- the records of finished steps, n steps after the record before
+unfoldable pub rowsAlong : ℕ → List FinishedStep → List Row
 rowsAlong n [] = []
-rowsAlong n (t ∷ l) = rowsOf (n + 1) t ++ rowsAlong (since (n + 1) t) l
+rowsAlong n (s ∷ l) = rowsOf (n + 1) (s .events) ++ rowsAlong (since (n + 1) (s .events)) l
 
-unfoldable pub sinceAlong : ℕ → List (List Event) → ℕ
+unfoldable pub sinceAlong : ℕ → List FinishedStep → ℕ
 sinceAlong n [] = n
-sinceAlong n (t ∷ l) = sinceAlong (since (n + 1) t) l
+sinceAlong n (s ∷ l) = sinceAlong (since (n + 1) (s .events)) l
 
 -- ---- at most k steps from a world, up to the first that is refused
 
-abbrev pub finished : Outcome Unit → (World → List (List Event)) → List (List Event)
-finished (refused n t) rest = []
-finished (done a v t) rest = t ∷ rest v
+abbrev pub finished : World → Outcome Unit → (World → List FinishedStep) → List FinishedStep
+finished w (refused n t) rest = []
+finished w (done a v t) rest = begunIn w t ∷ rest v
 
--- the events of each that is finished
-unfoldable pub stepsFrom : ℕ → World → List (List Event)
+-- those that are finished
+unfoldable pub stepsFrom : ℕ → World → List FinishedStep
 stepsFrom zero w = []
-stepsFrom (suc k) w = finished (step w) (stepsFrom k)
+stepsFrom (suc k) w = finished w (step w) (stepsFrom k)
 
 abbrev pub leading : World → Outcome Unit → (World → World) → World
 leading w (refused n t) rest = w

@@ -2,7 +2,7 @@
 use Rattle.sheet.specs.Psw.{settled}
 use Rattle.sheet.specs.Arithmetic.{resulting}
 use Rattle.sheet.specs.Contract.{flagged}
-use Rattle.sheet.specs.Decimal.{packedResult}
+use Rattle.sheet.specs.Adjust.{packedResult}
 use borrow.Author.Needs.{needs}
 use Rattle.convert.proofs.adj4.Statement.{statement}
 use Rattle.convert.proofs.adj4.Tie as tie

@@ -1,7 +1,7 @@
 -- `convert::adjb` meets its contract.
 use Rattle.sheet.specs.Psw.{settled}
 use Rattle.sheet.specs.Contract.{flagged}
-use Rattle.sheet.specs.Decimal.{unpackedResult}
+use Rattle.sheet.specs.Adjust.{unpackedResult}
 use borrow.Author.Needs.{needs}
 use Rattle.convert.proofs.adjb.Statement.{statement}
 use Rattle.convert.proofs.adjb.Tie as tie

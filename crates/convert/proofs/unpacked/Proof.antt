@@ -1,5 +1,5 @@
 -- `convert::unpacked` meets its contract.
-use Rattle.sheet.specs.Decimal.{unpacked}
+use Rattle.sheet.specs.Adjust.{unpacked}
 use borrow.Author.Needs.{needs}
 use Rattle.convert.proofs.unpacked.Statement.{statement}
 use Rattle.convert.proofs.unpacked.Tie as tie

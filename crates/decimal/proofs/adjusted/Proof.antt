@@ -1,11 +1,11 @@
 -- `decimal::adjusted` meets its contract.
 use borrow.Author.Needs.{needs}
-use Rattle.sheet.specs.Decimal.{adjusted}
+use Rattle.sheet.specs.Adjust.{lowAdjusted, highAdjusted, adjusted}
 use Rattle.decimal.proofs.adjusted.Statement.{statement}
 use Rattle.decimal.proofs.adjusted.Tie as tie
 
 returns : tie.Need-returns
-unfolding adjusted
+unfolding lowAdjusted highAdjusted adjusted
 returns c =
     let o = c .before .before .before .before in
     rw (c .plain2 .ensures .0, c .before .only2 .ensures .0, o .plain .ensures .0, o .before .only .ensures .0)

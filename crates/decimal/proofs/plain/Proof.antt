@@ -2,17 +2,17 @@
 use native.Mathlib.Omega.{arith}
 use borrow.Author.Needs.{needs}
 use Rattle.sheet.specs.Width.{wrapOf}
-use Rattle.sheet.specs.Decimal.{plain}
+use Rattle.sheet.specs.Adjust.{plain}
 use Rattle.decimal.proofs.plain.Statement.{statement}
 use Rattle.decimal.proofs.plain.Tie as tie
 
 returns : tie.Need-returns
 unfolding plain wrapOf
-returns c = (rw (c .if1 .taken, c .before .digit .ensures .0), omega arith)
+returns c = (rw (c .enum-told .given .1, c .before .before .digit .ensures .0), omega arith)
 
 returns-2 : tie.Need-returns-2
 unfolding plain wrapOf
-returns-2 c = (rw (c .if1 .left, c .before .digit .ensures .0), omega arith)
+returns-2 c = (rw (c .enum-told2 .given .1, c .before .before .digit .ensures .0), omega arith)
 
 pub plain-spec : {M : Type 1} → statement M
 plain-spec =
@@ -23,7 +23,9 @@ plain-spec =
     (λ c. search needs)
     (λ c. search needs)
     (λ c. search needs)
-    (λ c. omega (arith, c .before .digit .ensures .1))
+    (λ c. search needs)
+    (λ c. search needs)
+    (λ c. search needs)
     (λ c. search needs)
     (λ c. search needs)
     (λ c. search needs)

@@ -7,11 +7,11 @@ use Rattle.do_decimal.proofs.chained.Statement.{statement}
 use Rattle.do_decimal.proofs.chained.Tie as tie
 
 abbrev Inv-loop : tie.InvT-loop
-Inv-loop file ram₀ rom sub stores seg last i₀ cy₀ zero₀ t₀ ram i cy zero t =
-    (i ≤ last) × (length ram ≡ length ram₀) × Turns sub stores seg last file ram₀ rom i (record { cy = cy; zero = zero }) ram t
+Inv-loop file ram₀ rom way storing seg last i₀ cy₀ zero₀ t₀ ram i cy zero t =
+    (i ≤ last) × (length ram ≡ length ram₀) × Turns way storing seg last file ram₀ rom i (record { cy = cy; zero = zero }) ram t
 
 abbrev μ-loop : tie.MeasureT-loop
-μ-loop file ram₀ rom sub stores seg last i₀ cy₀ zero₀ t₀ ram i cy zero t = last - i
+μ-loop file ram₀ rom way storing seg last i₀ cy₀ zero₀ t₀ ram i cy zero t = last - i
 
 none-requires : tie.Need-none-requires Inv-loop μ-loop
 none-requires c κs = search needs
