@@ -19,7 +19,11 @@ ghost use Rattle.execute.specs.Performs.{Performs};
 fn count_on(count: u32) -> u32
     ensures { λ r. ⌜ r ≡ risen rule count ⌝ }
 {
-    if count < u32::MAX { count + 1 } else { u32::MAX }
+    if count < u32::MAX {
+        count + 1
+    } else {
+        u32::MAX
+    }
 }
 
 pub struct Finished {
