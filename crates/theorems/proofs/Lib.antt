@@ -33,6 +33,7 @@ pub mod Runs
 pub mod RunsStandIns
 pub mod RunsCode
 pub mod HeldOff
+pub mod Count
 pub mod LogCode
 pub mod Outcomes
 pub mod RunsFirst
