@@ -3,6 +3,7 @@
 #![forbid(unsafe_code)]
 
 mod execute;
+pub mod gap_rule;
 pub mod intel_hex;
 pub mod judge;
 pub mod listing;

@@ -3,7 +3,7 @@
 use crate::memory::Memory;
 use crate::portlog::Record;
 use crate::refusal::Refusal;
-use crate::state::{State, BRK, COUNT_LIMIT, IE, PS, SP, SS};
+use crate::state::{State, BRK, IE, PS, SP, SS};
 use crate::width::Width;
 use std::ops::AddAssign;
 
@@ -157,7 +157,6 @@ impl<'a> Machine<'a> {
         let good = state.fixed_bits_are_right()
             && state.tape_place as usize <= self.tape.len()
             && state.log_place as usize <= self.log.len()
-            && state.count <= COUNT_LIMIT
             && !(state.after_segment_load && state.halted);
         if good {
             Ok(())
@@ -182,7 +181,7 @@ impl<'a> Machine<'a> {
         self.state.count = if self.now.recorded {
             0
         } else {
-            COUNT_LIMIT.min(self.state.count + 1)
+            self.state.count.saturating_add(1)
         };
         Ok(self.now.tally)
     }
@@ -266,7 +265,7 @@ impl<'a> Machine<'a> {
     fn record<W: Width>(&mut self, port: u16, output: bool, value: u32) -> Outcome {
         let kind = u32::from(W::BYTES == 2) * 2 + u32::from(output);
         let record = Record {
-            gap: COUNT_LIMIT.min(self.state.count + 1),
+            gap: self.state.count.saturating_add(1),
             key: u32::from(port) * 4 + kind,
             value,
         };

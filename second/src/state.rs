@@ -31,9 +31,6 @@ pub const V: u16 = 1 << 11;
 const FIXED_ONES: u16 = 0xF002;
 const FIXED_ZEROS: u16 = 0x0028;
 
-/// The largest gap a record holds; the count of steps stops here too.
-pub const COUNT_LIMIT: u32 = 2_097_151;
-
 #[derive(Clone, Debug, PartialEq, Eq)]
 pub struct State {
     /// AW CW DW BW SP BP IX IY.
@@ -47,7 +44,7 @@ pub struct State {
     pub after_segment_load: bool,
     pub tape_place: u32,
     pub log_place: u32,
-    /// Finished steps since the last record or reset.
+    /// Finished steps since the last record or reset; it stops at the new rule's ceiling, the largest u32, so none is too large.
     pub count: u32,
 }
 

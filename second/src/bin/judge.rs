@@ -1,5 +1,6 @@
 //! Makes, answers and compares streams of cases, and lists port logs.
 
+use second::gap_rule::GapRule;
 use second::judge::answer::answer_stream;
 use second::judge::diff::{diff, Answers};
 use second::judge::generate::generate;
@@ -8,7 +9,7 @@ use std::io::{self, BufReader, BufWriter, Read, Write};
 use std::process::ExitCode;
 
 const USAGE: &str = "usage: judge generate SEED COUNT [FIRST] | judge answer | \
-                     judge diff CASES RESULT_A RESULT_B [FIRST] | judge list";
+                     judge diff CASES RESULT_A RESULT_B [FIRST] | judge list old|new";
 
 const MISMATCHED: u8 = 1;
 const UNUSABLE: u8 = 2;
@@ -22,7 +23,8 @@ fn main() -> ExitCode {
         ["answer"] => answer_input(),
         ["diff", cases, left, right] => compare(cases, left, right, "0"),
         ["diff", cases, left, right, first] => compare(cases, left, right, first),
-        ["list"] => list_input(),
+        ["list", "old"] => list_input(GapRule::Old),
+        ["list", "new"] => list_input(GapRule::New),
         _ => Err(USAGE.to_string()),
     };
     outcome.unwrap_or_else(|problem| {
@@ -79,13 +81,13 @@ fn compare(cases: &str, left: &str, right: &str, first: &str) -> Result<ExitCode
     })
 }
 
-fn list_input() -> Result<ExitCode, String> {
+fn list_input(rule: GapRule) -> Result<ExitCode, String> {
     let mut log = Vec::new();
     // one byte past the limit is enough to see that it is too long
     let mut input = io::stdin().lock().take(listing::LONGEST_LOG as u64 + 1);
     input
         .read_to_end(&mut log)
-        .and_then(|_| io::stdout().write_all(listing::list(&log).as_bytes()))
+        .and_then(|_| io::stdout().write_all(listing::list(&log, rule).as_bytes()))
         .map_err(|error| error.to_string())?;
     Ok(ExitCode::SUCCESS)
 }

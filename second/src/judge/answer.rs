@@ -70,7 +70,7 @@ fn answer_call(case: &Case, call: impl FnOnce(&mut Machine) -> RunReport) -> Vec
 
 fn answer_reading(case: &Case) -> Vec<u8> {
     let lent = case.buffers();
-    let mut reader = LogReader::new(&lent.log, case.state.log_place as usize);
+    let mut reader = LogReader::new(&lent.log, case.state.log_place as usize, case.gap_rule);
     let reading = reader.read();
     let place = reader.place() as u32;
     let (kind, numbers) = match reading {

@@ -1,5 +1,6 @@
 //! One case: a call, its arguments and the buffers that are lent to it.
 
+use crate::gap_rule::GapRule;
 use crate::state::{State, DS0, DS1, PS, SS};
 use std::io::{self, Read, Write};
 
@@ -12,8 +13,9 @@ pub const MOST_PATCHES: u16 = 4_096;
 const HEADER_LENGTH: usize = 72;
 const PATCH_LENGTH: usize = 6;
 
-/// From here on a header has zeros: fields of requests that are not built, and bytes that nothing uses.
-const ZEROS_FROM: usize = 62;
+/// Where a header has zeros: fields of requests that are not built, and bytes that nothing uses.
+const PERMISSION: usize = 62;
+const ZEROS_FROM: usize = 64;
 
 /// The order in which a stream names the segment registers.
 const SEGMENT_ORDER: [usize; 4] = [PS, SS, DS0, DS1];
@@ -67,6 +69,8 @@ pub struct Case {
     pub rom_length: u32,
     pub log_length: u16,
     pub fill: u8,
+    /// What a log reading reads under; the other calls do not look at it.
+    pub gap_rule: GapRule,
     pub patches: Vec<Patch>,
     pub tape: Vec<u8>,
 }
@@ -127,10 +131,10 @@ impl Case {
     }
 
     fn of_header(header: &[u8; HEADER_LENGTH]) -> Result<Case, End> {
-        if header[1] > 1 || header[2] > 1 || header[61] > 1 {
+        if [1, 2, 61, 63].iter().any(|&offset| header[offset] > 1) {
             return Err(End::Unfit("a mark is neither 0 nor 1"));
         }
-        if header[ZEROS_FROM..].iter().any(|&byte| byte != 0) {
+        if header[PERMISSION] != 0 || header[ZEROS_FROM..].iter().any(|&byte| byte != 0) {
             return Err(End::Unfit("something stands where there must be zero"));
         }
         let case = Case {
@@ -143,6 +147,11 @@ impl Case {
             rom_length: double_word_at(header, 50),
             log_length: word_at(header, 56),
             fill: header[60],
+            gap_rule: if header[63] == 0 {
+                GapRule::Old
+            } else {
+                GapRule::New
+            },
             patches: Vec::new(),
             tape: Vec::new(),
         };
@@ -180,6 +189,7 @@ impl Case {
         bytes.extend(self.log_length.to_le_bytes());
         bytes.extend((self.patches.len() as u16).to_le_bytes());
         bytes.extend([self.fill, u8::from(state.after_segment_load)]);
+        bytes.extend([0, self.gap_rule as u8]);
         bytes.resize(HEADER_LENGTH, 0);
         for patch in &self.patches {
             bytes.push(patch.lent as u8);

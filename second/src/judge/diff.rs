@@ -175,7 +175,11 @@ fn describe(case: &Case) -> String {
             format!("interrupt to vector {}, {kind}", case.vector)
         }
         Call::Reset => "reset".to_string(),
-        Call::LogReading => format!("log reading at place {}", case.state.log_place),
+        Call::LogReading => format!(
+            "log reading at place {} under the {} gap rule",
+            case.state.log_place,
+            case.gap_rule.name()
+        ),
     }
 }
 

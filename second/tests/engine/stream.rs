@@ -1,5 +1,6 @@
 //! Case streams: their bytes, their answers and the words of a mismatch.
 
+use second::gap_rule::GapRule;
 use second::judge::answer::{answer, answer_stream};
 use second::judge::case::{Call, Case, Lent, Patch};
 use second::judge::diff::{diff, Answers};
@@ -28,6 +29,7 @@ fn step_of(code: &[u8]) -> Case {
         rom_length: 0,
         log_length: 4,
         fill: 0x90,
+        gap_rule: GapRule::Old,
         patches: patches.collect(),
         tape: vec![0xAB],
     }
@@ -50,14 +52,15 @@ fn a_case_is_laid_out_as_the_table_says() {
     case.state.count = 0x12345;
     case.state.after_segment_load = true;
     case.budget = 0x1234;
+    case.gap_rule = GapRule::New;
     let bytes = bytes_of(&case);
     let mut expected = vec![0, 0, 0, 0, 0x34, 0x12];
     expected.extend([1, 1, 2, 0, 3, 0, 4, 0, 5, 0, 6, 0, 7, 0, 8, 0]);
     expected.extend([9, 0, 10, 0, 11, 0, 12, 0, 13, 0, 0x02, 0xF0]);
     expected.extend([1, 0, 0, 0, 2, 0, 0, 0, 0x45, 0x23, 0x01, 0]);
     expected.extend([16, 0, 0, 0, 0, 0, 0, 0, 1, 0, 4, 0, 1, 0, 0x90]);
-    expected.push(1);
-    expected.extend([0; 10]);
+    expected.extend([1, 0, 1]);
+    expected.extend([0; 8]);
     expected.extend([0, 0, 0, 0, 0, 0x40, 0xAB]);
     assert_eq!(bytes, expected);
     assert_eq!(Case::read(&mut &bytes[..]).expect("a whole case"), case);
@@ -128,6 +131,32 @@ fn log_readings_answer_with_seventeen_bytes() {
     );
 }
 
+#[test]
+fn log_readings_obey_the_gap_rule() {
+    // 82 82 82 82 02, then key 2 and value 2: a gap of five groups
+    let mut case = step_of(&[]);
+    case.call = Call::LogReading;
+    (case.fill, case.log_length) = (0x82, 7);
+    for index in 4..7 {
+        let (lent, value) = (Lent::Log, 0x02);
+        case.patches.push(Patch { lent, index, value });
+    }
+    assert_eq!(answer(&case)[0], 9);
+    case.gap_rule = GapRule::New;
+    assert_eq!(
+        answer(&case),
+        [0, 0x02, 0x81, 0x40, 0x20, 2, 0, 0, 0, 2, 0, 0, 0, 7, 0, 0, 0]
+    );
+    // the other calls do not look at it
+    for call in [Call::Step, Call::Run, Call::Interrupt, Call::Reset] {
+        case.call = call;
+        case.gap_rule = GapRule::New;
+        let new = answer(&case);
+        case.gap_rule = GapRule::Old;
+        assert_eq!(answer(&case), new);
+    }
+}
+
 fn answers_of(stream: &[u8]) -> Vec<u8> {
     let mut results = Vec::new();
     answer_stream(&mut &stream[..], &mut results).expect("memory does not fail");
@@ -173,14 +202,14 @@ fn what_does_not_fit_ends_the_stream() {
 
 #[test]
 fn values_that_a_field_has_not_end_the_stream() {
-    // the halted mark, the masking, the mark of a segment load, the kind of the patch
-    for (offset, last) in [(1, 1), (2, 1), (61, 1), (72, 2)] {
+    // the halted mark, the masking, the mark of a segment load, the gap rule, the kind of the patch
+    for (offset, last) in [(1, 1), (2, 1), (61, 1), (63, 1), (72, 2)] {
         assert!(answered_with(offset, &[last]) > 1);
         assert_eq!(answered_with(offset, &[last + 1]), 1);
         assert_eq!(answered_with(offset, &[255]), 1);
     }
     // requests that are not built, and zero bytes
-    for offset in 62..72 {
+    for offset in [62, 64, 65, 66, 67, 68, 69, 70, 71] {
         assert_eq!(answered_with(offset, &[1]), 1);
         assert_eq!(answered_with(offset, &[0x80]), 1);
     }
@@ -263,7 +292,7 @@ fn the_walk_passes_every_opcode() {
 #[test]
 fn generated_streams_reach_every_call_and_answer() {
     let mut reached = HashSet::new();
-    for number in 0..12_000 {
+    for number in 0..24_000 {
         let case = case(11, number);
         reached.insert((case.call as u8, answer(&case)[0]));
     }
@@ -275,6 +304,50 @@ fn generated_streams_reach_every_call_and_answer() {
         assert!(reached.contains(&wanted), "{wanted:?}");
     }
     assert!(reached.contains(&(3, 0)));
+}
+
+/// How many groups a gap at the start of the bytes seems to have.
+fn groups(bytes: &[u8]) -> usize {
+    bytes.iter().take_while(|&&byte| byte >= 0x80).count() + 1
+}
+
+#[test]
+fn generated_readings_meet_gaps_of_every_length_under_both_rules() {
+    let mut met = HashSet::new();
+    for number in 0..40_000 {
+        let case = case(5, number);
+        let log = case.buffers().log;
+        let place = case.state.log_place as usize;
+        if case.call == Call::LogReading && place < log.len() {
+            let after = answer(&case);
+            met.insert((case.gap_rule.name(), groups(&log[place..]), after[0]));
+        }
+    }
+    for length in 1..=6 {
+        assert_eq!(met.contains(&("old", length, 0)), length <= 3);
+        assert_eq!(met.contains(&("new", length, 0)), length <= 5);
+        for rule in ["old", "new"] {
+            assert!(met.contains(&(rule, length, 9)), "{rule} {length}");
+        }
+    }
+}
+
+#[test]
+fn generated_steps_write_gaps_about_both_ceilings() {
+    let mut written = HashSet::new();
+    for number in 0..40_000 {
+        let case = case(5, number);
+        let after = answer(&case);
+        let recorded = case.call == Call::Step && after[0] == 0 && after[46..50] == [0; 4];
+        if recorded {
+            written.insert(case.state.count);
+        }
+    }
+    for ceiling in [(1u32 << 21) - 1, u32::MAX] {
+        for count in ceiling - 1..=ceiling.saturating_add(1) {
+            assert!(written.contains(&count), "{count}");
+        }
+    }
 }
 
 #[test]
@@ -362,6 +435,20 @@ fn mismatches_are_told_in_words() {
         format!("{what}: PSW is F002h by A, F043h by B (differing: CY Z)")
     );
     assert_eq!(lines[3], "2 cases compared, 1 mismatched");
+}
+
+#[test]
+fn a_mismatched_reading_names_its_gap_rule() {
+    let mut case = step_of(&[]);
+    (case.call, case.fill, case.gap_rule) = (Call::LogReading, 1, GapRule::New);
+    let cases = bytes_of(&case);
+    let good = answers_of(&cases);
+    let mut bad = good.clone();
+    bad[4] = 0x80;
+    let (text, _) = words_of(&cases, &good, &bad);
+    let what = "case 7: log reading at place 0 under the new gap rule";
+    let wanted = format!("{what}: the gap is 1 by A, 2147483649 by B");
+    assert_eq!(text.lines().next(), Some(&wanted[..]));
 }
 
 #[test]

@@ -2,9 +2,10 @@
 
 use super::draft::Draft;
 use super::encodings;
+use super::gaps;
 use crate::judge::case::{Call, LARGEST_MEMORY};
 use crate::memory::ADDRESS_SPACE;
-use crate::state::{BP, COUNT_LIMIT, DS0, DS1, IX, IY, SP, SS};
+use crate::state::{BP, DS0, DS1, IX, IY, SP, SS};
 
 /// Code that begins shortly before RAM's end, ROM's start, the last address or the last offset.
 pub fn code_at_an_edge(draft: &mut Draft) {
@@ -124,10 +125,8 @@ fn spoil(draft: &mut Draft) {
             let beyond = draft.random.pick(&[0, 1, 2, 0x1_0000]);
             draft.case.state.log_place = u32::from(draft.case.log_length) + beyond;
         }
-        7 | 8 => {
-            let counts = [COUNT_LIMIT - 1, COUNT_LIMIT, COUNT_LIMIT + 1, u32::MAX];
-            draft.case.state.count = draft.random.pick(&counts);
-        }
+        // no count is refused, also those that no old log could hold
+        7 | 8 => draft.case.state.count = gaps::about_a_ceiling(&mut draft.random),
         9 | 10 => draft.case.state.halted = true,
         // whole address spaces are slow to fill, so they are rare
         _ if draft.random.one_in(4) => {

@@ -6,6 +6,7 @@ mod draft;
 mod drops;
 mod edges;
 pub mod encodings;
+mod gaps;
 mod logs;
 mod programs;
 pub mod random;
@@ -23,16 +24,16 @@ const WALK_PERIOD: u64 = 4;
 /// Families of cases and how many of a thousand each gets among the others.
 const FAMILIES: [(u32, Family); 25] = [
     (70, any_instruction),
-    (55, data::shift),
+    (45, data::shift),
     (45, data::divide),
     (20, data::multiply),
     (25, data::adjust),
     (40, data::decimal_strings),
     (35, data::bit_field),
     (25, data::bounded_arithmetic),
-    (70, data::block),
+    (60, data::block),
     (65, data::port),
-    (50, control::stack),
+    (40, control::stack),
     (20, control::prepare),
     (30, control::trap),
     (20, control::popped_flags),
@@ -45,7 +46,7 @@ const FAMILIES: [(u32, Family); 25] = [
     (40, edges::bad_arguments),
     (40, drops::store),
     (20, drops::push),
-    (50, logs::reading),
+    (80, logs::reading),
     (100, programs::run),
 ];
 

@@ -2,9 +2,10 @@
 
 use super::draft::Draft;
 use super::encodings;
+use crate::gap_rule::GapRule;
 use crate::judge::case::Call;
 use crate::judge::names;
-use crate::state::{BP, BRK, BW, COUNT_LIMIT, CW, DS0, DS1, DW, IX, IY, PS, SP, SS};
+use crate::state::{BP, BRK, BW, CW, DS0, DS1, DW, IX, IY, PS, SP, SS};
 
 const RETURN_FROM_INTERRUPT: u8 = 0xCF;
 const HANDLER: u16 = 0x3F0;
@@ -228,10 +229,11 @@ fn stack_loads(draft: &mut Draft) -> Vec<u8> {
     closed(program)
 }
 
-/// The count reaches its limit, then a record is written.
+/// The count reaches a ceiling, where it stops or, at the old one, goes on; then a record is written.
 fn long_quiet_spell(draft: &mut Draft) -> Vec<u8> {
     let spell = draft.random.between(1, 30);
-    draft.case.state.count = COUNT_LIMIT - draft.random.below(spell + 3);
+    let rule = draft.random.pick(&[GapRule::Old, GapRule::New]);
+    draft.case.state.count = rule.ceiling() - draft.random.below(spell + 3);
     draft.case.state.psw &= !BRK;
     let mut program = vec![0x90; spell as usize];
     program.extend([0xE6, draft.random.byte()]);
