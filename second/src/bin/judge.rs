@@ -3,12 +3,13 @@
 use second::gap_rule::GapRule;
 use second::judge::answer::answer_stream;
 use second::judge::diff::{diff, Answers};
-use second::judge::generate::generate;
+use second::judge::generate::Stream;
 use second::listing;
 use std::io::{self, BufReader, BufWriter, Read, Write};
 use std::process::ExitCode;
 
-const USAGE: &str = "usage: judge generate SEED COUNT [FIRST] | judge answer | \
+const USAGE: &str =
+    "usage: judge generate SEED COUNT [FIRST [calls|runs|quicker-runs]] | judge answer | \
                      judge diff CASES RESULT_A RESULT_B [FIRST] | judge list old|new";
 
 const MISMATCHED: u8 = 1;
@@ -18,8 +19,9 @@ fn main() -> ExitCode {
     let words: Vec<String> = std::env::args().skip(1).collect();
     let words: Vec<&str> = words.iter().map(String::as_str).collect();
     let outcome = match words[..] {
-        ["generate", seed, count] => write_cases(seed, count, "0"),
-        ["generate", seed, count, first] => write_cases(seed, count, first),
+        ["generate", seed, count] => write_cases(seed, count, "0", "calls"),
+        ["generate", seed, count, first] => write_cases(seed, count, first, "calls"),
+        ["generate", seed, count, first, stream] => write_cases(seed, count, first, stream),
         ["answer"] => answer_input(),
         ["diff", cases, left, right] => compare(cases, left, right, "0"),
         ["diff", cases, left, right, first] => compare(cases, left, right, first),
@@ -33,12 +35,14 @@ fn main() -> ExitCode {
     })
 }
 
-fn write_cases(seed: &str, count: &str, first: &str) -> Result<ExitCode, String> {
+fn write_cases(seed: &str, count: &str, first: &str, stream: &str) -> Result<ExitCode, String> {
     let seed = number(seed)?;
     let count = number(count)?;
     let first = number(first)?;
+    let stream = Stream::of_word(stream).ok_or(format!("there is no stream of {stream}"))?;
     let mut output = BufWriter::new(io::stdout().lock());
-    generate(seed, first, count, &mut output)
+    stream
+        .write(seed, first, count, &mut output)
         .and_then(|()| output.flush())
         .map_err(|error| error.to_string())?;
     Ok(ExitCode::SUCCESS)

@@ -27,6 +27,7 @@ pub enum Call {
     Interrupt,
     Reset,
     LogReading,
+    QuickerRun,
 }
 
 impl Call {
@@ -37,6 +38,7 @@ impl Call {
             Call::Interrupt,
             Call::Reset,
             Call::LogReading,
+            Call::QuickerRun,
         ]
         .get(usize::from(number))
         .copied()

@@ -30,7 +30,7 @@ pub struct Summary {
     pub cases: u64,
     pub mismatched: u64,
     /// how many cases there were of each call
-    calls: [u64; 5],
+    calls: [u64; 6],
 }
 
 /// Writes a line for each differing field, then how many cases there were of each call, and a last line that sums up.
@@ -88,10 +88,10 @@ pub fn diff(
             )?;
         }
     }
-    let [step, run, interrupt, reset, reading] = summary.calls;
+    let [step, run, interrupt, reset, reading, quicker] = summary.calls;
     writeln!(
         output,
-        "{step} step, {run} run, {interrupt} interrupt, {reset} reset, {reading} log reading"
+        "{step} step, {run} run, {interrupt} interrupt, {reset} reset, {reading} log reading, {quicker} quicker run"
     )?;
     writeln!(
         output,
@@ -161,8 +161,13 @@ fn differing_flags(left: &Field, right: &Field) -> String {
 fn describe(case: &Case) -> String {
     match case.call {
         Call::Step => format!("step of {}", first_instruction(case)),
-        Call::Run => format!(
-            "run with budget {} from {}",
+        Call::Run | Call::QuickerRun => format!(
+            "{} with budget {} from {}",
+            if case.call == Call::Run {
+                "run"
+            } else {
+                "quicker run"
+            },
             case.budget,
             first_instruction(case)
         ),

@@ -5,7 +5,7 @@ use second::judge::answer::{answer, answer_stream};
 use second::judge::case::{Call, Case, Lent, Patch};
 use second::judge::diff::{diff, Answers};
 use second::judge::generate::encodings::{has_operands, is_in, walk, LENGTH_OF_WALK};
-use second::judge::generate::{case, generate};
+use second::judge::generate::Stream;
 use second::judge::names::name;
 use second::judge::result::sum;
 use second::state::*;
@@ -185,14 +185,13 @@ fn answered_with(offset: usize, bytes: &[u8]) -> usize {
 
 #[test]
 fn what_does_not_fit_ends_the_stream() {
-    // RAM, ROM, tape, log and patches one over their limits; calls that are not built or not known
+    // RAM, ROM, tape, log and patches one over their limits; calls that are not known
     for (offset, bytes) in [
         (46, &[0x02, 0x00, 0x10, 0x00][..]),
         (50, &[0x02, 0x00, 0x10, 0x00]),
         (54, &[0x01, 0x10]),
         (56, &[0x01, 0x10]),
         (58, &[0x01, 0x10]),
-        (0, &[5]),
         (0, &[6]),
         (0, &[255]),
     ] {
@@ -254,7 +253,9 @@ fn patches_past_their_buffer_are_skipped() {
 fn a_seed_always_makes_the_same_stream() {
     let stream = |seed, first, count| {
         let mut bytes = Vec::new();
-        generate(seed, first, count, &mut bytes).expect("memory does not fail");
+        Stream::Calls
+            .write(seed, first, count, &mut bytes)
+            .expect("memory does not fail");
         bytes
     };
     let long = stream(7, 0, 300);
@@ -265,10 +266,12 @@ fn a_seed_always_makes_the_same_stream() {
 
 #[test]
 fn generated_cases_survive_writing_and_reading() {
-    for number in 0..2_000 {
-        let case = case(3, number);
-        let bytes = bytes_of(&case);
-        assert_eq!(Case::read(&mut &bytes[..]).expect("a whole case"), case);
+    for stream in [Stream::Calls, Stream::Runs, Stream::QuickerRuns] {
+        for number in 0..2_000 {
+            let case = stream.case(3, number);
+            let bytes = bytes_of(&case);
+            assert_eq!(Case::read(&mut &bytes[..]).expect("a whole case"), case);
+        }
     }
 }
 
@@ -293,7 +296,7 @@ fn the_walk_passes_every_opcode() {
 fn generated_streams_reach_every_call_and_answer() {
     let mut reached = HashSet::new();
     for number in 0..24_000 {
-        let case = case(11, number);
+        let case = Stream::Calls.case(11, number);
         reached.insert((case.call as u8, answer(&case)[0]));
     }
     let step = [0, 1, 2, 3, 4, 5, 6, 8].map(|number| (0, number));
@@ -315,7 +318,7 @@ fn groups(bytes: &[u8]) -> usize {
 fn generated_readings_meet_gaps_of_every_length_under_both_rules() {
     let mut met = HashSet::new();
     for number in 0..40_000 {
-        let case = case(5, number);
+        let case = Stream::Calls.case(5, number);
         let log = case.buffers().log;
         let place = case.state.log_place as usize;
         if case.call == Call::LogReading && place < log.len() {
@@ -336,7 +339,7 @@ fn generated_readings_meet_gaps_of_every_length_under_both_rules() {
 fn generated_steps_write_gaps_about_both_ceilings() {
     let mut written = HashSet::new();
     for number in 0..40_000 {
-        let case = case(5, number);
+        let case = Stream::Calls.case(5, number);
         let after = answer(&case);
         let recorded = case.call == Call::Step && after[0] == 0 && after[46..50] == [0; 4];
         if recorded {
@@ -351,11 +354,29 @@ fn generated_steps_write_gaps_about_both_ceilings() {
 }
 
 #[test]
+fn quicker_runs_are_the_runs_with_another_call() {
+    let mut reached = HashSet::new();
+    for number in 0..6_000 {
+        let run = Stream::Runs.case(4, number);
+        let mut quicker = Stream::QuickerRuns.case(4, number);
+        let (one, other) = (answer(&run), answer(&quicker));
+        reached.insert(one[0]);
+        assert_eq!(one, other);
+        assert_eq!((run.call, quicker.call), (Call::Run, Call::QuickerRun));
+        quicker.call = Call::Run;
+        assert_eq!(quicker, run);
+    }
+    for wanted in [0, 1, 2, 3, 4, 5, 6, 8] {
+        assert!(reached.contains(&wanted), "{wanted}");
+    }
+}
+
+#[test]
 fn generated_streams_drop_bytes() {
     // steps, runs and interrupts that drop an even and an odd number of bytes
     let mut found = [[0; 2]; 3];
     for number in 0..6_000 {
-        let case = case(11, number);
+        let case = Stream::Calls.case(11, number);
         if case.call as usize >= found.len() {
             continue;
         }
@@ -418,7 +439,7 @@ fn mismatches_are_told_in_words() {
     assert_eq!(
         (&text[..], mismatched),
         (
-            "2 step, 0 run, 0 interrupt, 0 reset, 0 log reading\n2 cases compared, 0 mismatched\n",
+            "2 step, 0 run, 0 interrupt, 0 reset, 0 log reading, 0 quicker run\n2 cases compared, 0 mismatched\n",
             0
         )
     );

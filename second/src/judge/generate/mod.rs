@@ -10,8 +10,10 @@ mod gaps;
 mod logs;
 mod programs;
 pub mod random;
+mod rewriting;
+mod runs;
 
-use crate::judge::case::Case;
+use crate::judge::case::{Call, Case};
 use draft::Draft;
 use random::Random;
 use std::io::{self, Write};
@@ -50,29 +52,67 @@ const FAMILIES: [(u32, Family); 25] = [
     (100, programs::run),
 ];
 
-/// So many cases of a seed, from the case of the first number on.
-pub fn generate(seed: u64, first: u64, count: u64, stream: &mut impl Write) -> io::Result<()> {
-    for number in first..first.saturating_add(count) {
-        case(seed, number).write(stream)?;
-    }
-    Ok(())
+/// What a stream is made of.
+#[derive(Clone, Copy, Debug, PartialEq, Eq)]
+pub enum Stream {
+    /// Every call but the quicker run.
+    Calls,
+    Runs,
+    /// The same cases as runs, with the other call.
+    QuickerRuns,
 }
 
-/// The case of a number; it does not depend on how many are made.
-pub fn case(seed: u64, number: u64) -> Case {
-    let mut draft = Draft::new(Random::for_case(seed, number));
+impl Stream {
+    pub fn of_word(word: &str) -> Option<Stream> {
+        match word {
+            "calls" => Some(Stream::Calls),
+            "runs" => Some(Stream::Runs),
+            "quicker-runs" => Some(Stream::QuickerRuns),
+            _ => None,
+        }
+    }
+
+    /// The case of a number; it does not depend on how many are made.
+    pub fn case(self, seed: u64, number: u64) -> Case {
+        match self {
+            Stream::Calls => {
+                let mut draft = Draft::new(Random::for_case(seed, number));
+                any_case(&mut draft, seed, number);
+                draft.case
+            }
+            Stream::Runs => runs::case(seed, number, Call::Run),
+            Stream::QuickerRuns => runs::case(seed, number, Call::QuickerRun),
+        }
+    }
+
+    /// So many cases of a seed, from the case of the first number on.
+    pub fn write(
+        self,
+        seed: u64,
+        first: u64,
+        count: u64,
+        output: &mut impl Write,
+    ) -> io::Result<()> {
+        for number in first..first.saturating_add(count) {
+            self.case(seed, number).write(output)?;
+        }
+        Ok(())
+    }
+}
+
+/// The next opcode of the walk, or a case of a family.
+fn any_case(draft: &mut Draft, seed: u64, number: u64) {
     match number % WALK_PERIOD {
         0 => {
             let start = seed.wrapping_mul(100_003);
             let opcode = encodings::walk(start.wrapping_add(number / WALK_PERIOD));
-            instruction(&mut draft, opcode);
+            instruction(draft, opcode);
         }
         _ => {
-            let family = draw_family(&mut draft);
-            family(&mut draft);
+            let family = draw_family(draft);
+            family(draft);
         }
     }
-    draft.case
 }
 
 fn draw_family(draft: &mut Draft) -> Family {
