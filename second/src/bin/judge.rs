@@ -1,5 +1,6 @@
 //! Makes, answers and compares streams of cases, and lists port logs.
 
+use second::cards::CARDS;
 use second::gap_rule::GapRule;
 use second::judge::answer::answer_stream;
 use second::judge::diff::{diff, Answers};
@@ -56,7 +57,7 @@ fn number(word: &str) -> Result<u64, String> {
 fn answer_input() -> Result<ExitCode, String> {
     let mut input = BufReader::new(io::stdin().lock());
     let mut output = BufWriter::new(io::stdout().lock());
-    answer_stream(&mut input, &mut output)
+    answer_stream(&mut input, &mut output, CARDS)
         .and_then(|()| output.flush())
         .map_err(|error| error.to_string())?;
     Ok(ExitCode::SUCCESS)

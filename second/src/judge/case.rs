@@ -1,5 +1,6 @@
 //! One case: a call, its arguments and the buffers that are lent to it.
 
+use crate::cards::Cards;
 use crate::gap_rule::GapRule;
 use crate::state::{State, DS0, DS1, PS, SS};
 use std::io::{self, Read, Write};
@@ -13,8 +14,9 @@ pub const MOST_PATCHES: u16 = 4_096;
 const HEADER_LENGTH: usize = 72;
 const PATCH_LENGTH: usize = 6;
 
-/// Where a header has zeros: fields of requests that are not built, and bytes that nothing uses.
+/// The permission to write the mode, zero without the cards.
 const PERMISSION: usize = 62;
+/// From here on a header has zeros: fields of requests that are not built, and bytes that nothing uses.
 const ZEROS_FROM: usize = 64;
 
 /// The order in which a stream names the segment registers.
@@ -105,10 +107,10 @@ impl From<io::Error> for End {
 }
 
 impl Case {
-    pub fn read(stream: &mut impl Read) -> Result<Case, End> {
+    pub fn read(stream: &mut impl Read, cards: Cards) -> Result<Case, End> {
         let mut header = [0; HEADER_LENGTH];
         stream.read_exact(&mut header)?;
-        let case = Case::of_header(&header)?;
+        let case = Case::of_header(&header, cards)?;
         let (tape_length, patch_count) = (word_at(&header, 54), word_at(&header, 58));
         if tape_length > LONGEST_TAPE {
             return Err(End::Unfit("the tape is too long"));
@@ -132,11 +134,15 @@ impl Case {
         })
     }
 
-    fn of_header(header: &[u8; HEADER_LENGTH]) -> Result<Case, End> {
-        if [1, 2, 61, 63].iter().any(|&offset| header[offset] > 1) {
+    fn of_header(header: &[u8; HEADER_LENGTH], cards: Cards) -> Result<Case, End> {
+        if [1, 2, 61, PERMISSION, 63]
+            .iter()
+            .any(|&offset| header[offset] > 1)
+        {
             return Err(End::Unfit("a mark is neither 0 nor 1"));
         }
-        if header[PERMISSION] != 0 || header[ZEROS_FROM..].iter().any(|&byte| byte != 0) {
+        let permission_without_cards = cards == Cards::Out && header[PERMISSION] != 0;
+        if permission_without_cards || header[ZEROS_FROM..].iter().any(|&byte| byte != 0) {
             return Err(End::Unfit("something stands where there must be zero"));
         }
         let case = Case {
@@ -190,8 +196,12 @@ impl Case {
         bytes.extend((self.tape.len() as u16).to_le_bytes());
         bytes.extend(self.log_length.to_le_bytes());
         bytes.extend((self.patches.len() as u16).to_le_bytes());
-        bytes.extend([self.fill, u8::from(state.after_segment_load)]);
-        bytes.extend([0, self.gap_rule as u8]);
+        bytes.extend([
+            self.fill,
+            u8::from(state.after_segment_load),
+            u8::from(state.may_write_mode),
+            self.gap_rule as u8,
+        ]);
         bytes.resize(HEADER_LENGTH, 0);
         for patch in &self.patches {
             bytes.push(patch.lent as u8);
@@ -262,6 +272,7 @@ fn state_of_header(header: &[u8; HEADER_LENGTH]) -> State {
     state.psw = word_at(header, 32);
     state.halted = header[1] != 0;
     state.after_segment_load = header[61] != 0;
+    state.may_write_mode = header[PERMISSION] != 0;
     state.tape_place = double_word_at(header, 34);
     state.log_place = double_word_at(header, 38);
     state.count = double_word_at(header, 42);

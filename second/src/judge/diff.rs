@@ -1,5 +1,6 @@
 //! Compares two engines' answers to one stream and says in words where they differ.
 
+use crate::cards::Cards;
 use crate::judge::case::{Call, Case, End};
 use crate::judge::names;
 use crate::judge::result::{fields, length_for, Field, Value};
@@ -7,7 +8,7 @@ use crate::memory::Memory;
 use crate::state::PS;
 use std::io::{self, Write};
 
-const FLAG_NAMES: [(u16, &str); 9] = [
+const FLAG_NAMES: [(u16, &str); 10] = [
     (0, "CY"),
     (2, "P"),
     (4, "AC"),
@@ -17,6 +18,7 @@ const FLAG_NAMES: [(u16, &str); 9] = [
     (9, "IE"),
     (10, "DIR"),
     (11, "V"),
+    (15, "MD"),
 ];
 
 /// Who gave which answers.
@@ -44,7 +46,8 @@ pub fn diff(
 ) -> io::Result<Summary> {
     let mut summary = Summary::default();
     loop {
-        let case = match Case::read(&mut cases) {
+        // what the engines make of a case without the cards is theirs to say
+        let case = match Case::read(&mut cases, Cards::In) {
             Ok(case) => case,
             Err(End::OfStream) => break,
             Err(End::Unfit(why)) => {

@@ -5,6 +5,7 @@ mod bench;
 mod bits;
 mod blocks;
 mod branches;
+mod cards;
 mod decimal;
 mod drops;
 mod log;

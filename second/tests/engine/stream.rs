@@ -1,7 +1,8 @@
 //! Case streams: their bytes, their answers and the words of a mismatch.
 
+use second::cards::Cards;
 use second::gap_rule::GapRule;
-use second::judge::answer::{answer, answer_stream};
+use second::judge::answer::{self, answer_stream};
 use second::judge::case::{Call, Case, Lent, Patch};
 use second::judge::diff::{diff, Answers};
 use second::judge::generate::encodings::{has_operands, is_in, walk, LENGTH_OF_WALK};
@@ -35,6 +36,11 @@ fn step_of(code: &[u8]) -> Case {
     }
 }
 
+/// This engine's answer without the cards.
+fn answer(case: &Case) -> Vec<u8> {
+    answer::answer(case, Cards::Out)
+}
+
 fn bytes_of(case: &Case) -> Vec<u8> {
     let mut bytes = Vec::new();
     case.write(&mut bytes).expect("a vector takes all bytes");
@@ -63,7 +69,10 @@ fn a_case_is_laid_out_as_the_table_says() {
     expected.extend([0; 8]);
     expected.extend([0, 0, 0, 0, 0, 0x40, 0xAB]);
     assert_eq!(bytes, expected);
-    assert_eq!(Case::read(&mut &bytes[..]).expect("a whole case"), case);
+    assert_eq!(
+        Case::read(&mut &bytes[..], Cards::Out).expect("a whole case"),
+        case
+    );
 }
 
 #[test]
@@ -159,7 +168,7 @@ fn log_readings_obey_the_gap_rule() {
 
 fn answers_of(stream: &[u8]) -> Vec<u8> {
     let mut results = Vec::new();
-    answer_stream(&mut &stream[..], &mut results).expect("memory does not fail");
+    answer_stream(&mut &stream[..], &mut results, Cards::Out).expect("memory does not fail");
     results
 }
 
@@ -270,7 +279,10 @@ fn generated_cases_survive_writing_and_reading() {
         for number in 0..2_000 {
             let case = stream.case(3, number);
             let bytes = bytes_of(&case);
-            assert_eq!(Case::read(&mut &bytes[..]).expect("a whole case"), case);
+            assert_eq!(
+                Case::read(&mut &bytes[..], Cards::Out).expect("a whole case"),
+                case
+            );
         }
     }
 }
