@@ -9,8 +9,7 @@ use second::listing;
 use std::io::{self, BufReader, BufWriter, Read, Write};
 use std::process::ExitCode;
 
-const USAGE: &str =
-    "usage: judge generate SEED COUNT [FIRST [calls|runs|quicker-runs]] | judge answer | \
+const USAGE: &str = "usage: judge generate SEED COUNT [FIRST [STREAM]] | judge answer | \
                      judge diff CASES RESULT_A RESULT_B [FIRST] | judge list old|new";
 
 const MISMATCHED: u8 = 1;
@@ -40,7 +39,7 @@ fn write_cases(seed: &str, count: &str, first: &str, stream: &str) -> Result<Exi
     let seed = number(seed)?;
     let count = number(count)?;
     let first = number(first)?;
-    let stream = Stream::of_word(stream).ok_or(format!("there is no stream of {stream}"))?;
+    let stream = Stream::of_word(stream, CARDS).ok_or(format!("there is no stream of {stream}"))?;
     let mut output = BufWriter::new(io::stdout().lock());
     stream
         .write(seed, first, count, &mut output)

@@ -2,8 +2,8 @@
 
 use crate::cards::Cards;
 use crate::judge::case::{Call, Case, End};
-use crate::judge::names;
 use crate::judge::result::{fields, length_for, Field, Value};
+use crate::judge::{names, names_8080};
 use crate::memory::Memory;
 use crate::state::PS;
 use std::io::{self, Write};
@@ -193,7 +193,11 @@ fn describe(case: &Case) -> String {
 
 fn first_instruction(case: &Case) -> String {
     let bytes = code_bytes(case);
-    let named = names::name(&bytes);
+    let named = if case.state.is_native() {
+        names::name(&bytes)
+    } else {
+        names_8080::name(&bytes)
+    };
     let shown: Vec<String> = bytes[..named.length]
         .iter()
         .map(|byte| format!("{byte:02X}"))

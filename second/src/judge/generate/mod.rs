@@ -1,5 +1,7 @@
 //! Makes case streams: a walk over every opcode, mixed with cases aimed at single rules.
 
+mod card_programs;
+mod cards;
 mod control;
 mod data;
 mod draft;
@@ -13,6 +15,7 @@ pub mod random;
 mod rewriting;
 mod runs;
 
+use crate::cards::Cards;
 use crate::judge::case::{Call, Case};
 use draft::Draft;
 use random::Random;
@@ -23,7 +26,7 @@ type Family = fn(&mut Draft);
 /// Every so many cases one is the next of the walk.
 const WALK_PERIOD: u64 = 4;
 
-/// Families of cases and how many of a thousand each gets among the others.
+/// Families of cases and the share that each gets among the others.
 const FAMILIES: [(u32, Family); 25] = [
     (70, any_instruction),
     (45, data::shift),
@@ -60,14 +63,23 @@ pub enum Stream {
     Runs,
     /// The same cases as runs, with the other call.
     QuickerRuns,
+    /// Every call but the quicker run, in the 8080 mode and across its borders.
+    Cards,
+    /// The same cases, all as runs.
+    CardRuns,
+    QuickerCardRuns,
 }
 
 impl Stream {
-    pub fn of_word(word: &str) -> Option<Stream> {
-        match word {
-            "calls" => Some(Stream::Calls),
-            "runs" => Some(Stream::Runs),
-            "quicker-runs" => Some(Stream::QuickerRuns),
+    /// Streams of the 8080 mode are there with the cards alone.
+    pub fn of_word(word: &str, cards: Cards) -> Option<Stream> {
+        match (word, cards) {
+            ("calls", _) => Some(Stream::Calls),
+            ("runs", _) => Some(Stream::Runs),
+            ("quicker-runs", _) => Some(Stream::QuickerRuns),
+            ("cards", Cards::In) => Some(Stream::Cards),
+            ("card-runs", Cards::In) => Some(Stream::CardRuns),
+            ("quicker-card-runs", Cards::In) => Some(Stream::QuickerCardRuns),
             _ => None,
         }
     }
@@ -82,6 +94,9 @@ impl Stream {
             }
             Stream::Runs => runs::case(seed, number, Call::Run),
             Stream::QuickerRuns => runs::case(seed, number, Call::QuickerRun),
+            Stream::Cards => cards::case(seed, number),
+            Stream::CardRuns => as_run(cards::case(seed, number), Call::Run, number),
+            Stream::QuickerCardRuns => as_run(cards::case(seed, number), Call::QuickerRun, number),
         }
     }
 
@@ -100,6 +115,15 @@ impl Stream {
     }
 }
 
+/// A case of any call as a run; one that was none gets a budget of a few steps.
+fn as_run(mut case: Case, way: Call, number: u64) -> Case {
+    if case.call != Call::Run {
+        case.budget = 1 + (number % 3) as u16;
+    }
+    case.call = way;
+    case
+}
+
 /// The next opcode of the walk, or a case of a family.
 fn any_case(draft: &mut Draft, seed: u64, number: u64) {
     match number % WALK_PERIOD {
@@ -109,21 +133,23 @@ fn any_case(draft: &mut Draft, seed: u64, number: u64) {
             instruction(draft, opcode);
         }
         _ => {
-            let family = draw_family(draft);
+            let family = draw(&FAMILIES, &mut draft.random);
             family(draft);
         }
     }
 }
 
-fn draw_family(draft: &mut Draft) -> Family {
-    let mut lot = draft.random.below(1000);
-    for (share, family) in FAMILIES {
+/// One of the families, each by its share.
+fn draw(families: &[(u32, Family)], random: &mut Random) -> Family {
+    let all_shares = families.iter().map(|(share, _)| share).sum();
+    let mut lot = random.below(all_shares);
+    for &(share, family) in families {
         if lot < share {
             return family;
         }
         lot -= share;
     }
-    any_instruction
+    unreachable!("a lot lies below the sum of all shares")
 }
 
 fn any_instruction(draft: &mut Draft) {

@@ -82,7 +82,7 @@ pub fn lay_out(draft: &mut Draft) {
 }
 
 /// Closes a loop over all that stands before it.
-fn closed(mut program: Vec<u8>) -> Vec<u8> {
+pub fn closed(mut program: Vec<u8>) -> Vec<u8> {
     let back = (program.len() as u16 + 3).wrapping_neg();
     program.push(0xE9);
     program.extend(back.to_le_bytes());

@@ -20,7 +20,7 @@ pub fn case(seed: u64, number: u64, way: Call) -> Case {
     draft.case
 }
 
-fn some_budget(random: &mut Random) -> u16 {
+pub fn some_budget(random: &mut Random) -> u16 {
     match random.below(20) {
         0 => random.pick(&[0, 1, 2]),
         1 => random.word(),

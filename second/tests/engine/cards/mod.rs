@@ -2,6 +2,7 @@
 
 mod arithmetic;
 mod bytes;
+mod generated;
 mod jumps;
 mod mode;
 mod stack;
