@@ -28,7 +28,7 @@ fn name_and_length(first: u8, second: u8) -> (String, usize) {
         0x2A => plain("LHLD", 3),
         0x32 => plain("STA", 3),
         0x3A => plain("LDA", 3),
-        0x00..=0x3F => match (low, high & 1) {
+        0x01..=0x3F => match (low, high & 1) {
             (1, 0) => (format!("LXI {}", PAIRS[pair]), 3),
             (1, _) => (format!("DAD {}", PAIRS[pair]), 1),
             (2, 0) => (format!("STAX {}", PAIRS[pair]), 1),

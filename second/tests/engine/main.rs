@@ -8,6 +8,7 @@ mod branches;
 mod cards;
 mod decimal;
 mod drops;
+mod generated;
 mod log;
 mod memory;
 mod play;

@@ -3,6 +3,7 @@
 use super::card;
 use crate::bench::{bench, Bench};
 use second::judge::generate::encodings::PREFIXES;
+use second::judge::names_8080::name;
 use second::state::*;
 
 const UNKNOWN: [u8; 11] = [
@@ -44,19 +45,48 @@ fn there_are_no_prefixes() {
 #[test]
 fn lengths() {
     for first in (0..=255u8).filter(|first| !UNKNOWN.contains(first)) {
-        let length = match first {
-            0x01 | 0x11 | 0x21 | 0x31 | 0x22 | 0x2A | 0x32 | 0x3A => 3,
-            // branches go elsewhere
-            0xC0 | 0xC2 | 0xC3 | 0xC4 | 0xC7..=0xCA | 0xCC | 0xCD | 0xCF => continue,
-            0xD0 | 0xD2 | 0xD4 | 0xD7 | 0xD8 | 0xDA | 0xDC | 0xDF => continue,
-            0xE0 | 0xE2 | 0xE4 | 0xE7..=0xEA | 0xEC | 0xED | 0xEF => continue,
-            0xF0 | 0xF2 | 0xF4 | 0xF7 | 0xF8 | 0xFA | 0xFC | 0xFF => continue,
-            0x00..=0x3F if first & 7 == 6 => 2,
-            0xC0..=0xFF if first & 7 == 6 => 2,
-            0xD3 | 0xDB => 2,
-            _ => 1,
+        let (length, goes_elsewhere) = match first {
+            0x01 | 0x11 | 0x21 | 0x31 | 0x22 | 0x2A | 0x32 | 0x3A => (3, false),
+            0xD3 | 0xDB => (2, false),
+            0xED => continue,
+            0xC3 | 0xCD => (3, true),
+            0xC9 | 0xE9 => (1, true),
+            0x00..=0x3F if first & 7 == 6 => (2, false),
+            0xC0..=0xFF => match first & 7 {
+                0 | 7 => (1, true),
+                2 | 4 => (3, true),
+                6 => (2, false),
+                _ => (1, false),
+            },
+            _ => (1, false),
         };
-        assert_eq!(supplied(&[first]).done().state.pc, length, "{first:02X}");
+        assert_eq!(name(&[first]).length, length, "{first:02X}");
+        if !goes_elsewhere {
+            let pc = supplied(&[first]).done().state.pc;
+            assert_eq!(usize::from(pc), length, "{first:02X}");
+        }
+    }
+}
+
+#[test]
+fn names() {
+    for (code, words) in [
+        (&[0x08][..], "unknown"),
+        (&[0x09], "DAD B"),
+        (&[0x31], "LXI SP"),
+        (&[0x3F], "CMC"),
+        (&[0x56], "MOV D,M"),
+        (&[0x9F], "SBB A"),
+        (&[0xED, 0xED], "CALLN"),
+        (&[0xED, 0xFD], "RETEM"),
+        (&[0xED, 0x00], "unknown"),
+        (&[0xDD], "unknown"),
+        (&[0xE4], "CPO"),
+        (&[0xF1], "POP PSW"),
+        (&[0xFE], "CPI"),
+        (&[0xFF], "RST 7"),
+    ] {
+        assert_eq!(name(code).name, words, "{code:02X?}");
     }
 }
 
