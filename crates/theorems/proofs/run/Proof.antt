@@ -1,7 +1,7 @@
-use Rattle.promises.proofs.Laws.{run-so}
+use Rattle.theorems.proofs.CallsTaken.{run-so}
 use borrow.Author.Needs.{needs}
-use Rattle.promises.proofs.run.Statement.{statement}
-use Rattle.promises.proofs.run.Tie as tie
+use Rattle.theorems.proofs.run.Statement.{statement}
+use Rattle.theorems.proofs.run.Tie as tie
 
 returns : tie.Need-returns
 returns c = search (run-so, needs)
