@@ -20,11 +20,41 @@ const CALLN: [u8; 3] = [0xED, 0xED, TO_ROUTINE];
 const RETEM: [u8; 2] = [0xED, 0xFD];
 const RETI: u8 = 0xCF;
 
+/// Bytes that are harmless in both modes: INC, DEC or MOV, decimal adjustments or what A and CY take, XCH or SUB.
+const IN_BOTH_MODES: [u8; 14] = [
+    0x27, 0x2F, 0x37, 0x3F, 0x40, 0x41, 0x42, 0x47, 0x48, 0x49, 0x4A, 0x4F, 0x90, 0x92,
+];
+
 pub fn run(draft: &mut Draft) {
     programs::lay_out(draft);
     draft.case.call = Call::Run;
     draft.case.budget = runs::some_budget(&mut draft.random);
     draft.case.state.general[BP] = CARD_STACK + draft.random.below(0x30) as u16;
+    if draft.random.one_in(4) {
+        same_code_in_both_modes(draft);
+    } else {
+        native_and_8080_code(draft);
+    }
+    if draft.random.one_in(3) {
+        draft.case.state.psw &= !BRK;
+    }
+}
+
+/// BRKEM leads back to the code before it, and BRKEM's own bytes, read as RRC and RST 7, to a RETEM.
+fn same_code_in_both_modes(draft: &mut Draft) {
+    let mut program = Vec::new();
+    for _ in 0..draft.random.between(1, 12) {
+        program.push(draft.random.pick(&IN_BOTH_MODES));
+    }
+    let start = START + draft.random.below(program.len() as u32) as u16;
+    program.extend(BRKEM);
+    let program = programs::closed(program);
+    draft.put_word(0, u16::from(TO_CARD) * 4, start);
+    draft.put(0, START, &program);
+    draft.put(0, 7 * 8, &RETEM);
+}
+
+fn native_and_8080_code(draft: &mut Draft) {
     if draft.random.one_in(3) {
         // pointers on the 8080 code itself
         for code in [BW, CW, DW] {
@@ -48,9 +78,6 @@ pub fn run(draft: &mut Draft) {
         state.psw &= !MODE;
         state.may_write_mode = true;
         (state.segment[PS], state.pc) = (segment, start);
-    }
-    if draft.random.one_in(3) {
-        draft.case.state.psw &= !BRK;
     }
 }
 

@@ -95,8 +95,8 @@ fn every_way_between_the_modes_is_gone() {
     }
 }
 
-/// How often the mode changes over the steps of a run.
-fn changes_of_mode(case: &Case) -> u32 {
+/// How often the mode changes over the steps of a run, and at how many places code is done in both modes.
+fn changes_and_shared_places(case: &Case) -> (usize, usize) {
     let mut lent = case.buffers();
     let mut machine = Machine::new(
         case.state.clone(),
@@ -107,14 +107,18 @@ fn changes_of_mode(case: &Case) -> u32 {
     );
     machine.cards = Cards::In;
     let mut changes = 0;
+    let mut places = [HashSet::new(), HashSet::new()];
     for _ in 0..case.budget {
-        let before = machine.state.is_native();
+        let native = machine.state.is_native();
+        let place = (machine.state.segment[PS], machine.state.pc);
         if machine.step().is_err() {
             break;
         }
-        changes += u32::from(machine.state.is_native() != before);
+        places[usize::from(native)].insert(place);
+        changes += usize::from(machine.state.is_native() != native);
     }
-    changes
+    let [card, native] = places;
+    (changes, card.intersection(&native).count())
 }
 
 #[test]
@@ -122,10 +126,14 @@ fn runs_go_from_mode_to_mode() {
     let runs = (0..4_000)
         .map(|number| Stream::Cards.case(3, number))
         .filter(|case| case.call == Call::Run);
-    let changes: Vec<u32> = runs.map(|case| changes_of_mode(&case)).collect();
-    let with_two = changes.iter().filter(|&&changes| changes >= 2).count();
-    let with_ten = changes.iter().filter(|&&changes| changes >= 10).count();
-    assert!(with_two > 80 && with_ten > 40, "{with_two} {with_ten}");
+    let seen: Vec<(usize, usize)> = runs.map(|case| changes_and_shared_places(&case)).collect();
+    let with_two = seen.iter().filter(|(changes, _)| *changes >= 2).count();
+    let with_ten = seen.iter().filter(|(changes, _)| *changes >= 10).count();
+    let with_shared = seen.iter().filter(|(_, shared)| *shared > 0).count();
+    assert!(
+        with_two > 80 && with_ten > 40 && with_shared > 30,
+        "{with_two} {with_ten} {with_shared}"
+    );
 }
 
 #[test]
