@@ -1,10 +1,11 @@
 -- What each return of the code comes to, over plain values.
 use Prim.Native.Nat.{ℕ, _+_, _-_, _≤_, _<_, zero-le}
-use mathlib.Core.Bool.{Bool, true, false, not, _&&_}
+use mathlib.Core.Bool.{Bool, true, false, not, _&&_, and-true}
 use mathlib.Core.List.{List}
 use mathlib.Core.Path.{_≡_, refl, sym, ap, _∙_}
 use native.Mathlib.Omega.{arith}
 use lib.ListN.{length, getD}
+use lib.Dec.{leb}
 use borrow.Author.Tests.{le-leb, lt-leb}
 use Rattle.sheet.specs.declared.Bus.{Bus}
 use Rattle.sheet.specs.declared.Marks.{Marks}
@@ -12,6 +13,7 @@ use Rattle.sheet.specs.declared.State.{State}
 use Rattle.sheet.specs.Width.{pick}
 use Rattle.sheet.specs.Psw.{IE, flagOf, fixedOf}
 use Rattle.sheet.specs.Registers.{PSW}
+use Rattle.sheet.specs.Log.{ceiling, rule}
 use Rattle.sheet.specs.World.{World, world, pswOf, markHalted}
 use Rattle.sheet.specs.Handler.{Outcome, kept, run, runBy, nothing}
 use Rattle.sheet.specs.Traps.{trap}
@@ -20,6 +22,10 @@ use Rattle.sheet.specs.Contract.{seen, exec, OnMemory, report, reportOf}
 use Rattle.sheet.proofs.Rules.{seq-last, ends-halted}
 use Rattle.tally.specs.Sums.{Free}
 use Rattle.calls.specs.Calls.{checkNumber, heldNumber, Accepts, Interrupts}
+
+-- the count's type holds it within the ceiling
+pub count-good : (s : State) (tape log : List ℕ) → s .progress .count ≤ ceiling rule → (leb (s .progress .tape) (length tape) && leb (s .progress .log) (length log)) ≡ placesGood s tape log
+count-good s tape log h = rw (le-leb (s .progress .count) (ceiling rule) h, and-true (leb (s .progress .log) (length log)))
 
 module _ (s : State) (ram rom tape log : List ℕ) where
   -- RAM alone is too long, or both together

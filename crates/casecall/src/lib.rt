@@ -1,6 +1,7 @@
 // What a case asks for: its buffers laid out, its call made, and the bytes of the result.
 use caseform::Case;
 use sheet::Bus;
+use sheet::GapRule;
 use sheet::State;
 ghost use mathlib.Core.Path.{_≡_};
 ghost use Rattle.calls.specs.Calls.{Interrupts};
@@ -129,11 +130,11 @@ pub fn result(
     bytes_of(d, ram, log)
 }
 
-// The bytes that answer a log reading.
-pub fn reading(log: &[u8], at: usize) -> [u8; 17]
-    ensures { λ r. ⌜ Reading (now (log .entry)) at r ⌝ }
+// The bytes that answer a log reading under a gap rule.
+pub fn reading(log: &[u8], at: usize, rule: GapRule) -> [u8; 17]
+    ensures { λ r. ⌜ Reading rule (now (log .entry)) at r ⌝ }
 {
-    let e = logreader::read_log(log, at);
+    let e = logreader::read_log(log, at, rule);
     let mut out = [0; 17];
     caseform::put_entry(&mut out, e);
     out

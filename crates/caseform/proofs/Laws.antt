@@ -1,15 +1,19 @@
 -- What the branches and the turns of the loops come to. Assumes nothing.
 use Prim.Native.Nat.{ℕ, _+_, _*_, _<_, _≤_}
+use mathlib.Core.Bool.{not}
 use mathlib.Core.List.{List}
 use mathlib.Core.Path.{_≡_, _∙_}
 use native.Mathlib.Numerals.{add-one}
 use native.Mathlib.Omega.{arith}
 use lib.ListN.{getD, set}
-use borrow.Author.Tests.{lt-ltb, le-ltb}
+use lib.Dec.{eqb}
+use borrow.Author.Tests.{lt-ltb, le-ltb, ne-eqb}
+use Rattle.sheet.specs.declared.GapRule.{GapRule}
+use Rattle.sheet.specs.declared.GapRule.the-variants.{Old, New}
 use Rattle.sheet.specs.declared.Entry.{Entry}
 use Rattle.sheet.specs.declared.Entry.the-variants.{Record, End, Malformed, Beyond}
-use Rattle.casebytes.specs.Numbers.{wordAt, wordPut}
-use Rattle.caseform.specs.Form.{placeOf, fileOf, withFile, withRecord, withEntry}
+use Rattle.casebytes.specs.Numbers.{wordAt, doubleAt, wordPut}
+use Rattle.caseform.specs.Form.{placeOf, fileOf, ruleOf, caseOf, withFile, withRecord, withEntry}
 
 module _ (i : ℕ) where
   pub place-general : i < 8 → (i ≡ placeOf i) × (i < 14)
@@ -27,6 +31,21 @@ module _ (i : ℕ) where
   pub place-same : 8 ≤ i → 11 ≤ i → 12 ≤ i → i < 14 → (i ≡ placeOf i) × (i < 14)
   unfolding placeOf
   place-same a b d e = (rw (le-ltb _ _ a, le-ltb _ _ b, le-ltb _ _ d), e)
+
+module _ (header : List ℕ) where
+  pub rule-old : getD header 63 0 ≡ 0 → Old ≡ ruleOf header
+  unfolding ruleOf
+  rule-old e = rw e
+
+  pub rule-new : (getD header 63 0 ≡ 0 → ⊥) → New ≡ ruleOf header
+  unfolding ruleOf
+  rule-new f = rw (ne-eqb (getD header 63 0) 0 f)
+
+  pub case-is : (budget ram rom tape log patches : ℕ) (rule : GapRule) → budget ≡ wordAt header 4 → rule ≡ ruleOf header → ram ≡ doubleAt header 46 → rom ≡ doubleAt header 50
+      → tape ≡ wordAt header 54 → log ≡ wordAt header 56 → patches ≡ wordAt header 58
+      → record { call = getD header 0 0; maskable = not (eqb (getD header 2 0) 0); vector = getD header 3 0; budget = budget; rule = rule; ram = ram; rom = rom; tape = tape; log = log; patches = patches; fill = getD header 60 0 } ≡ caseOf header
+  unfolding caseOf
+  case-is budget ram rom tape log patches rule a b d e f g h = rw (a, b, d, e, f, g, h)
 
 -- one register more is read
 pub file-more : (header file : List ℕ) (i at value : ℕ) → at ≡ placeOf i → value ≡ wordAt header (6 + i * 2) → file ≡ fileOf header i → set file at value ≡ fileOf header (i + 1)

@@ -9,16 +9,18 @@ use Rattle.sheet.specs.Width.{pick}
 use Rattle.sheet.specs.declared.Marks.{Marks}
 use Rattle.sheet.specs.declared.State.{State}
 use Rattle.sheet.specs.declared.Bus.{Bus}
+use Rattle.sheet.specs.declared.GapRule.{GapRule}
+use Rattle.sheet.specs.declared.GapRule.the-variants.{Old, New}
 use Rattle.sheet.specs.declared.Entry.{Entry}
 use Rattle.sheet.specs.declared.Entry.the-variants.{Record, End, Malformed, Beyond}
 use Rattle.casebytes.specs.Numbers.{wordAt, doubleAt, wordPut, doublePut}
 use Rattle.caseform.specs.declared.Case.{Case}
 
--- the rules for a header's bytes: call, halted, masking and the mark of a segment load; zero in the permission and the gap rule, whose
--- requests are not built, in the flags marked undefined, and in the last six bytes
+-- the rules for a header's bytes: call, halted, masking, the mark of a segment load and the gap rule; zero in the permission and in the
+-- flags marked undefined, whose requests are not built, and in the last six bytes
 unfoldable pub goodHeader : List ℕ → Bool
 goodHeader header =
-    leb (getD header 0 0) 4 && (leb (getD header 1 0) 1 && (leb (getD header 2 0) 1 && (leb (getD header 61 0) 1 && (eqb (getD header 62 0) 0 && (eqb (getD header 63 0) 0 && (eqb (wordAt header 64) 0 && (eqb (wordAt header 66) 0 && eqb (doubleAt header 68) 0)))))))
+    leb (getD header 0 0) 4 && (leb (getD header 1 0) 1 && (leb (getD header 2 0) 1 && (leb (getD header 61 0) 1 && (eqb (getD header 62 0) 0 && (leb (getD header 63 0) 1 && (eqb (wordAt header 64) 0 && (eqb (wordAt header 66) 0 && eqb (doubleAt header 68) 0)))))))
 
 -- where the register file has the stream's register i: eight general ones, PS, SS, DS0, DS1, PC, PSW
 unfoldable pub placeOf : ℕ → ℕ
@@ -37,6 +39,10 @@ stateOf header =
       progress = record { tape = doubleAt header 34; log = doubleAt header 38; count = doubleAt header 42 };
     }
 
+-- the gap rule that a log is read under
+unfoldable pub ruleOf : List ℕ → GapRule
+ruleOf header = pick (eqb (getD header 63 0) 0) Old New
+
 unfoldable pub caseOf : List ℕ → Case
 caseOf header =
     record {
@@ -44,6 +50,7 @@ caseOf header =
       maskable = not (eqb (getD header 2 0) 0);
       vector = getD header 3 0;
       budget = wordAt header 4;
+      rule = ruleOf header;
       ram = doubleAt header 46;
       rom = doubleAt header 50;
       tape = wordAt header 54;

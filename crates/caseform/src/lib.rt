@@ -5,12 +5,13 @@ use casebytes::put_word;
 use casebytes::word_at;
 use sheet::Bus;
 use sheet::Entry;
+use sheet::GapRule;
 use sheet::Marks;
 use sheet::Progress;
 use sheet::State;
 ghost use mathlib.Core.Path.{_≡_};
 ghost use Prim.Native.Nat.{_<_};
-ghost use Rattle.caseform.specs.Form.{placeOf, goodHeader, fileOf, stateOf, caseOf, withFile, withAnswer, withTally, withPlaces, withCall, withSums, withRecord, withEntry};
+ghost use Rattle.caseform.specs.Form.{placeOf, goodHeader, fileOf, stateOf, ruleOf, caseOf, withFile, withAnswer, withTally, withPlaces, withCall, withSums, withRecord, withEntry};
 
 // ---- the header
 
@@ -26,7 +27,7 @@ pub fn good_header(header: &[u8; 72]) -> bool
             & ((header[2] <= 1)
                 & ((header[61] <= 1)
                     & ((header[62] == 0)
-                        & ((header[63] == 0) & ((undefined == 0) & ((low == 0) & (high == 0))))))))
+                        & ((header[63] <= 1) & ((undefined == 0) & ((low == 0) & (high == 0))))))))
 }
 
 // The registers stand in the stream as AW CW DW BW SP BP IX IY PS SS DS0 DS1 PC PSW: where the register file has each.
@@ -82,12 +83,24 @@ pub fn state_of(header: &[u8; 72]) -> State
     }
 }
 
+// The gap rule that a log is read under.
+fn rule_of(header: &[u8; 72]) -> GapRule
+    ensures { λ r. ⌜ r ≡ ruleOf (now (header .entry)) ⌝ }
+{
+    if header[63] == 0 {
+        GapRule::Old
+    } else {
+        GapRule::New
+    }
+}
+
 // The rest of a header: the call with its arguments, the lengths of the buffers, the number of patches, the byte to fill with.
 pub struct Case {
     pub call: u8,
     pub maskable: bool,
     pub vector: u8,
     pub budget: u16,
+    pub rule: GapRule,
     pub ram: usize,
     pub rom: usize,
     pub tape: usize,
@@ -100,6 +113,7 @@ pub fn case_of(header: &[u8; 72]) -> Case
     ensures { λ r. ⌜ r ≡ caseOf (now (header .entry)) ⌝ }
 {
     let budget = word_at(header, 4);
+    let rule = rule_of(header);
     let ram = double_at(header, 46);
     let rom = double_at(header, 50);
     let tape = word_at(header, 54);
@@ -110,6 +124,7 @@ pub fn case_of(header: &[u8; 72]) -> Case
         maskable: header[2] != 0,
         vector: header[3],
         budget,
+        rule,
         ram: ram as usize,
         rom: rom as usize,
         tape: tape as usize,

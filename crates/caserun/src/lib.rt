@@ -18,7 +18,8 @@ fn write_reading(out: &[u8; 17]) -> bool {
 
 fn answer(s: State, ram: &mut [u8], rom: &[u8], tape: &[u8], log: &mut [u8], c: Case) -> bool {
     if c.call == 4 {
-        let out = casecall::reading(log, s.progress.log);
+        let rule = c.rule;
+        let out = casecall::reading(log, s.progress.log, rule);
         write_reading(&out)
     } else {
         let out = casecall::result(s, ram, rom, tape, log, c);

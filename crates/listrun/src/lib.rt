@@ -3,6 +3,7 @@ use io::write_all;
 use libc::STDERR_FILENO;
 use libc::STDIN_FILENO;
 use libc::STDOUT_FILENO;
+use sheet::GapRule;
 
 // The buffers come from functions: of a call's result the length is known, and no check computes its elements.
 
@@ -16,10 +17,10 @@ fn output_buffer() -> [u8; 786472] {
     [0; 786472]
 }
 
-// Prints the listing of a log.
-fn print(log: &[u8]) {
+// Prints the listing of a log that was written under a rule.
+fn print(log: &[u8], rule: GapRule) {
     let mut out = output_buffer();
-    let n = listing::report(log, &mut out);
+    let n = listing::report(log, rule, &mut out);
     if !write_all(STDOUT_FILENO, &out[..n]) {
         write_all(STDERR_FILENO, b"listlog: cannot write the listing\n");
     }
@@ -32,11 +33,11 @@ fn at_end() -> bool {
 }
 
 // Prints the listing of the log on standard input.
-pub fn run() {
+pub fn run(rule: GapRule) {
     let mut input = input_buffer();
     let n = io::read_full(STDIN_FILENO, &mut input);
     if n == 65537 || at_end() {
-        print(&input[..n]);
+        print(&input[..n], rule);
     } else {
         write_all(STDERR_FILENO, b"listlog: cannot read the input\n");
     }

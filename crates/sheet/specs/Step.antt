@@ -17,7 +17,7 @@ use Rattle.sheet.specs.Width.{pick, add16}
 use Rattle.sheet.specs.Psw.{BRK, IE, Choice, flagOf, fixedOf}
 use Rattle.sheet.specs.Registers.{PS, PC, PSW, fileOf}
 use Rattle.sheet.specs.Memory.{physical, byteAt}
-use Rattle.sheet.specs.Log.{rule, risen}
+use Rattle.sheet.specs.Log.{ceiling, rule, risen}
 use Rattle.sheet.specs.World.{World, withState, stateOf, progressOf, pswOf, withCount, withMarks, marksOf, markLoaded}
 use Rattle.sheet.specs.Act.{Act, pure, _>>=_, _>>_, flag, halted}
 use Rattle.sheet.specs.Handler.{Outcome, refused, runBy, kept}
@@ -37,7 +37,7 @@ fits w = leb (length (w .ram) + length (w .rom)) 1048576
 
 -- places and count
 abbrev pub placesGood : State → List ℕ → List ℕ → Bool
-placesGood s tape log = leb (s .progress .tape) (length tape) && (leb (s .progress .log) (length log) && leb (s .progress .count) (rule .ceiling))
+placesGood s tape log = leb (s .progress .tape) (length tape) && (leb (s .progress .log) (length log) && leb (s .progress .count) (ceiling rule))
 
 -- never both: HALT is then itself the last finished step
 abbrev pub marksGood : Marks → Bool

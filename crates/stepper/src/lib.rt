@@ -19,7 +19,11 @@ ghost use Rattle.execute.specs.Performs.{Performs};
 fn count_on(count: u32) -> u32
     ensures { λ r. ⌜ r ≡ risen rule count ⌝ }
 {
-    if count < 2097151 { count + 1 } else { 2097151 }
+    if count < u32::MAX {
+        count + 1
+    } else {
+        u32::MAX
+    }
 }
 
 struct Finished {

@@ -15,6 +15,7 @@ use Rattle.sheet.specs.Run.{RunReport, runReported}
 use Rattle.portlog.specs.declared.Put.{Put}
 use Rattle.portlog.specs.declared.Put.the-variants.{Done, Full, Beyond}
 use Rattle.portlog.specs.Put.{putNumber, putCount, Logs}
+use Rattle.sheet.specs.declared.GapRule.{GapRule}
 use Rattle.logreader.specs.Answer.{Answers}
 use Rattle.calls.specs.Calls.{Interrupts}
 use Rattle.engine.specs.Steps.{Steps}
@@ -64,7 +65,7 @@ pub reset-once : {s s₂ : State} → s ≡ reset → s₂ ≡ reset → s ≡ s
 reset-once e f = e ∙ sym f
 
 -- what the log reader answers at a place
-pub entry-once : {log : List ℕ} {at : ℕ} {e e₂ : Entry} → Answers log at e → Answers log at e₂ → e ≡ e₂
+pub entry-once : {g : GapRule} {log : List ℕ} {at : ℕ} {e e₂ : Entry} → Answers g log at e → Answers g log at e₂ → e ≡ e₂
 entry-once x y = x .answer ∙ sym (y .answer)
 
 -- the log's writer: an answer is its number and its count of bytes

@@ -7,7 +7,8 @@ use Rattle.sheet.specs.declared.Bus.{Bus}
 use Rattle.sheet.specs.declared.Entry.{Entry}
 use Rattle.sheet.specs.World.{World, world, marksOf}
 use Rattle.sheet.specs.Contract.{Report, report}
-use Rattle.sheet.specs.Log.{rule, readLog}
+use Rattle.sheet.specs.declared.GapRule.{GapRule}
+use Rattle.sheet.specs.Log.{readLog}
 use Rattle.sheet.specs.Lendable.{every, lendable, vectorTop, budgetTop}
 use Rattle.sheet.specs.Step.{stepReport, interruptReport}
 use Rattle.sheet.specs.Run.{runs, RunReport, runReported, ranReport}
@@ -24,8 +25,8 @@ abbrev pub MeetsRun : (ℕ → World → RunReport) → Type 0
 MeetsRun engine = (budget : ℕ) (w : World) → budget ≤ budgetTop → lendable w ≡ true → ranReport (runs budget w) ≡ engine budget w
 
 -- a log reader does what reading promises
-abbrev pub MeetsReader : (List ℕ → ℕ → Entry) → Type 0
-MeetsReader reader = (log : List ℕ) (at : ℕ) → every 255 log ≡ true → readLog rule log at ≡ reader log at
+abbrev pub MeetsReader : (GapRule → List ℕ → ℕ → Entry) → Type 0
+MeetsReader reader = (g : GapRule) (log : List ℕ) (at : ℕ) → every 255 log ≡ true → readLog g log at ≡ reader g log at
 
 -- ---- the parts of a report
 

@@ -13,6 +13,7 @@ use registers::PS;
 use registers::SP;
 use registers::SS;
 use sheet::Entry;
+use sheet::GapRule;
 use sheet::State;
 
 // A line of spaces.
@@ -192,7 +193,7 @@ fn put_value(line: &mut [u8; 80], at: usize, key: u64, value: u64) -> usize {
 
 // The record that a step wrote at a place of the log.
 fn put_record(line: &mut [u8; 80], at: usize, log: &[u8], place: usize) -> usize {
-    match logreader::read_log(log, place) {
+    match logreader::read_log(log, place, GapRule::New) {
         Entry::Record { key, value, .. } => {
             let x = put_way(line, at, key);
             let y = put_hex(line, x, key / 4, 4);

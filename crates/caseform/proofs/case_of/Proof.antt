@@ -1,16 +1,16 @@
-use Rattle.caseform.specs.Form.{caseOf}
 use borrow.Author.Needs.{needs}
+use Rattle.caseform.proofs.Laws.{case-is}
 use Rattle.caseform.proofs.case_of.Statement.{statement}
 use Rattle.caseform.proofs.case_of.Tie as tie
 
 returns : tie.Need-returns
-unfolding caseOf
-returns c = cc
+returns c = search (case-is, needs)
 
 pub case-of-spec : {M : Type 1} → statement M
 case-of-spec =
     tie.close
     (tie.spec
+    (λ c κs. search needs)
     (λ c κs. search needs)
     (λ c κs. search needs)
     (λ c κs. search needs)

@@ -12,7 +12,7 @@ array-share-prefix-out : tie.Need-array-share-prefix-out
 array-share-prefix-out c = omega (arith, same (c .report .ensures), c .report .ensures .within)
 
 slice-aggregate-write-all : tie.Need-slice-aggregate-write-all
-slice-aggregate-write-all c = let r = c .before .report in sym (length-take-le (r .result) (r .last .1 .0) (omega (arith, same (r .ensures), r .ensures .within)))
+slice-aggregate-write-all c = let r = c .before .report in sym (length-take-le (r .result) (r .last .1 .1 .0) (omega (arith, same (r .ensures), r .ensures .within)))
 
 pub print-spec : {M : Type 1} → statement M
 print-spec =
