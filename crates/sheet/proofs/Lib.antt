@@ -13,3 +13,6 @@ pub mod StepLaws
 pub mod MarkLaws
 pub mod BlockLaws
 pub mod Replay
+pub mod CardForms
+pub mod CardExamples
+pub mod CardRows

@@ -33,3 +33,9 @@ pub mod FirstByte
 pub mod Lendable
 pub mod Step
 pub mod Run
+pub mod CardPlaces
+pub mod CardPoint
+pub mod CardArithmetic
+pub mod CardStack
+pub mod CardBranch
+pub mod CardCodes

@@ -1,0 +1,41 @@
+use Rattle.code_8080_c0.proofs.Laws.{at11}
+use borrow.Author.Needs.{needs}
+use Rattle.code_8080_c0.proofs.cards11.Statement.{statement}
+use Rattle.code_8080_c0.proofs.cards11.Tie as tie
+
+returns : tie.Need-returns
+returns c = search (at11, needs)
+
+returns-2 : tie.Need-returns-2
+returns-2 c = search (at11, needs)
+
+returns-3 : tie.Need-returns-3
+returns-3 c = search (at11, needs)
+
+returns-4 : tie.Need-returns-4
+returns-4 c = search (at11, needs)
+
+returns-5 : tie.Need-returns-5
+returns-5 c = search (at11, needs)
+
+returns-6 : tie.Need-returns-6
+returns-6 c = search (at11, needs)
+
+pub cards11-spec : {M : Type 1} → statement M
+cards11-spec =
+    tie.close
+    (tie.spec
+    (λ c κs. search needs)
+    (λ c κs. search needs)
+    (λ c κs. search needs)
+    (λ c κs. search needs)
+    (λ c κs. search needs)
+    (λ c κs. search needs)
+    (λ c κs. search needs)
+    returns
+    returns-2
+    returns-3
+    returns-4
+    returns-5
+    returns-6
+    (λ c. search needs))
