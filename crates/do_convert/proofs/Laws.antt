@@ -16,8 +16,8 @@ use Rattle.sheet.specs.Adjust.{digitsOf, packedResult, unpackedResult, adj4, ad
 use Rattle.sheet.specs.Convert.{converted, setConverted, cvtbd, cvtdb, cvtbw, cvtwl}
 use Rattle.sheet.specs.Contract.{OnFile, flagged}
 use Rattle.sheet.proofs.Lifted.{file-seq, file-registers, file-set, file-flag}
-use Rattle.registers.proofs.Laws.{file-reg}
-use Rattle.psw.proofs.Results.{file-affect, value-is}
+use Rattle.mach_registers.proofs.Laws.{file-reg}
+use Rattle.calc_psw.proofs.Results.{file-affect, value-is}
 
 module _ (f : List ℕ) where
   pub adj4-is : (way : Way) (al : ℕ) (x : Flagged) (g : List ℕ) → al ≡ readReg false (fileOf f) AL → x ≡ flagged (packedResult way (digitsOf al (flagOf (getD f PSW 0) AC) (flagOf (getD f PSW 0) CY))) (getD f PSW 0)

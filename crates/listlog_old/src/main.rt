@@ -2,5 +2,5 @@
 use sheet::GapRule;
 
 fn main() {
-    listrun::run(GapRule::Old);
+    log_run::run(GapRule::Old);
 }

@@ -41,7 +41,7 @@ use Rattle.sheet.specs.Step.{fits, sound, source, loadsSegment, singleStep, sta
 use Rattle.sheet.proofs.PswLaws.{flag-settled}
 use Rattle.sheet.proofs.Rules.{seq-last, ends-pure, seq-registers, seq-set, seq-flag}
 use Rattle.sheet.proofs.BlockLaws.{no-prefix, Begins, scan-prefixes}
-use Rattle.decimal.proofs.DecimalLaws.{packed, decimal-borrow}
+use Rattle.calc_decimal.proofs.DecimalLaws.{packed, decimal-borrow}
 use Rattle.engine.specs.Steps.{Steps}
 use Rattle.engine.proofs.RunLaws.{as-done}
 use Rattle.theorems.specs.Repeat.{reg}

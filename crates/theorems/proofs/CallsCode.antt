@@ -12,12 +12,12 @@ use Rattle.sheet.specs.Handler.{nothing}
 use Rattle.sheet.specs.Contract.{Report, report}
 use Rattle.sheet.specs.Step.{reset}
 use Rattle.sheet.specs.Run.{RunReport, runReported}
-use Rattle.portlog.specs.declared.Put.{Put}
-use Rattle.portlog.specs.declared.Put.the-variants.{Done, Full, Beyond}
-use Rattle.portlog.specs.Put.{putNumber, putCount, Logs}
+use Rattle.log_record.specs.declared.Put.{Put}
+use Rattle.log_record.specs.declared.Put.the-variants.{Done, Full, Beyond}
+use Rattle.log_record.specs.Put.{putNumber, putCount, Logs}
 use Rattle.sheet.specs.declared.GapRule.{GapRule}
-use Rattle.logreader.specs.Answer.{Answers}
-use Rattle.calls.specs.Calls.{Interrupts}
+use Rattle.log_reader.specs.Answer.{Answers}
+use Rattle.step_calls.specs.Calls.{Interrupts}
 use Rattle.engine.specs.Steps.{Steps}
 use Rattle.engine.specs.Runs.{Runs}
 use Rattle.theorems.specs.StandIns.{subtracting, subtracted, asleep}

@@ -24,7 +24,7 @@ use Rattle.sheet.specs.Log.{entryOf, readLog, entryNumber}
 use Rattle.sheet.specs.Traps.{push, pushPsw, pushPsPc, jumpFar, save, trap}
 use Rattle.sheet.specs.Step.{fits, sound, awake, stepBy, step, stepReport, interrupting, interruptBy, interrupt, interruptReport}
 use Rattle.sheet.proofs.SmallTable.{small-table}
-use Rattle.portlog.proofs.Vectors.{sample-first}
+use Rattle.log_record.proofs.Vectors.{sample-first}
 use Rattle.theorems.specs.Bounds.{Bytes}
 use Rattle.sheet.specs.Lendable.{every, lendable}
 use Rattle.theorems.specs.StandIns.{MeetsStep, MeetsInterrupt, MeetsReader, numberOf, worldOf, busOf, subtracting, subtracted, adjusting, adjusted, asleep, callable, entered, masked, sampleLog}

@@ -5,7 +5,7 @@ use mathlib.Core.List.{List}
 use Rattle.sheet.specs.declared.Bus.{Bus}
 use Rattle.sheet.specs.declared.State.{State}
 use Rattle.sheet.specs.World.{world}
-use Rattle.calls.specs.Calls.{Interrupts}
+use Rattle.step_calls.specs.Calls.{Interrupts}
 use Rattle.engine.specs.Steps.{Steps}
 use Rattle.engine.specs.Runs.{Runs}
 use Rattle.theorems.specs.RepeatCode.{StepCall, step-call, InterruptCall, interrupt-call}

@@ -12,9 +12,9 @@ use Rattle.sheet.specs.Handler.{Event, reads, writes, takes, gives, asks, copie
 use Rattle.sheet.specs.Step.{step, starting, stepping}
 use Rattle.sheet.proofs.StepLaws.{begins}
 use Rattle.sheet.proofs.Replay.{Track, trackOf, logged, effect, replay, Replays, replays, replays-all}
-use Rattle.portlog.specs.Whole.{Row, AllSound, rowBytes, logBytes, at-end, Reads}
-use Rattle.portlog.proofs.Whole.{written-read}
-use Rattle.portlog.proofs.Growth.{log-grows}
+use Rattle.log_record.specs.Whole.{Row, AllSound, rowBytes, logBytes, at-end, Reads}
+use Rattle.log_record.proofs.Whole.{written-read}
+use Rattle.log_record.proofs.Growth.{log-grows}
 use Rattle.sheet.specs.Lendable.{lendable}
 use Rattle.theorems.specs.Rows.{Use, none, access, useOf, rowOf, rowsOfUse, sinceUse, rowsOf, since, rowsAlong, sinceAlong, stepsFrom, worldAfter}
 use Rattle.theorems.proofs.PortOnce.{AtMostOne, no-row, one-row, step-row}

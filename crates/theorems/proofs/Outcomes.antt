@@ -28,8 +28,8 @@ use Rattle.sheet.specs.Reading.{Read, known, unknown, scan}
 use Rattle.sheet.specs.Encoding.{Prefix, unprefixed, withPrefix, prefixOf, lookUp}
 use Rattle.sheet.specs.FirstByte.{firstBytes, afterPrefix, prefixed, instruction}
 use Rattle.sheet.specs.Step.{fits, placesGood, sound, refusal, source, codeAt, starting, stepping, decoded, awake, stepBy, step, interrupting, interruptBy, interrupt, instructionIn}
-use Rattle.portlog.proofs.Records.{end-empty}
-use Rattle.portlog.proofs.Whole.{end-read}
+use Rattle.log_record.proofs.Records.{end-empty}
+use Rattle.log_record.proofs.Whole.{end-read}
 use Rattle.theorems.specs.Bounds.{Bytes}
 use Rattle.theorems.specs.Rows.{Use}
 use Rattle.theorems.specs.Access.{accessOf, tapeNeed, logNeed}

@@ -35,9 +35,9 @@ use Rattle.sheet.specs.Traps.{untrapped}
 use Rattle.sheet.specs.Execute.{operation, execute}
 use Rattle.sheet.specs.Step.{fits, placesGood, sound, starting, stepping, step}
 use Rattle.sheet.proofs.StepLaws.{Stepped, begins}
-use Rattle.portlog.specs.Whole.{Row, Sound}
-use Rattle.portlog.proofs.Growth.{access-sound}
-use Rattle.portlog.proofs.Picked.{picked}
+use Rattle.log_record.specs.Whole.{Row, Sound}
+use Rattle.log_record.proofs.Growth.{access-sound}
+use Rattle.log_record.proofs.Picked.{picked}
 use Rattle.theorems.specs.Repeat.{reg, repeats}
 use Rattle.sheet.specs.Lendable.{lendable}
 use Rattle.theorems.specs.Rows.{Use, none, access, rowsOfUse, rowsOf}

@@ -10,8 +10,8 @@ use Rattle.sheet.specs.declared.Entry.the-variants.{Record, End}
 use Rattle.sheet.specs.Log.{rule}
 use Rattle.sheet.specs.World.{World, world}
 use Rattle.sheet.specs.Run.{FinishedStep}
-use Rattle.portlog.specs.Whole.{Row}
-use Rattle.logreader.specs.Answer.{Answers}
+use Rattle.log_record.specs.Whole.{Row}
+use Rattle.log_reader.specs.Answer.{Answers}
 use Rattle.engine.specs.Runs.{Runs}
 use Rattle.sheet.specs.Lendable.{lendable}
 use Rattle.theorems.specs.RepeatCode.{StepCall, InterruptCall}

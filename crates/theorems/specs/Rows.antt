@@ -7,7 +7,7 @@ use Rattle.sheet.specs.World.{World}
 use Rattle.sheet.specs.Handler.{Event, reads, writes, takes, gives, asks, copies, changes, Outcome, refused, done}
 use Rattle.sheet.specs.Step.{step}
 use Rattle.sheet.specs.Run.{FinishedStep, begunIn}
-use Rattle.portlog.specs.Whole.{Row}
+use Rattle.log_record.specs.Whole.{Row}
 
 -- what an event is to the log: nothing, or an access to a port
 pub data Use : Type 0 where

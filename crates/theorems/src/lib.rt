@@ -1,7 +1,7 @@
 // Theorems about the whole machine: specs/ and proofs/. Here the calls that they speak of, promised as they take them.
-use calls::Answer;
 use engine::Ran;
 use sheet::State;
+use step_calls::Answer;
 ghost use Rattle.sheet.specs.World.{world};
 ghost use Rattle.theorems.specs.RepeatCode.{StepCall, InterruptCall};
 ghost use Rattle.theorems.specs.LogCode.{RunCall};
@@ -29,5 +29,5 @@ pub fn interrupt(
 ) -> Answer
     ensures { λ r. ⌜ InterruptCall vector maskable (world s (now (ram .entry)) (now (rom .entry)) (now (tape .entry)) (now (log .entry))) (r .number) (world (r .state) (now (ram .exit)) (now (rom .entry)) (now (tape .entry)) (now (log .entry))) (r .bus) ⌝ }
 {
-    calls::interrupt(s, ram, rom, tape, log, vector, maskable)
+    step_calls::interrupt(s, ram, rom, tape, log, vector, maskable)
 }
