@@ -71,6 +71,10 @@ module _ (a b : ℕ) (h : busAt a .cycles + busAt b .cycles + (busAt a .dropped 
 pub both-fit : {t u : ℕ} (a b : Bus) → Within a t → Within b u → t + u ≤ 1000000000 → a .cycles + b .cycles + (a .dropped + b .dropped) ≤ 4294967295
 both-fit a b x y h = let c = x .cycles in let d = x .dropped in let e = y .cycles in let f = y .dropped in omega arith
 
+pub fits-above : {t : ℕ} (n : ℕ) → Within (busAt n) t → t ≤ 1000000000 → 256 + n < 18446744073709551616
+unfolding busAt
+fits-above n w h = let c = w .cycles in let d = w .dropped in let e = parts n in omega arith
+
 pub unpacked : (n : ℕ) (b : Bus) → b ≡ record { cycles = n % 4294967296; dropped = n / 4294967296 } → b ≡ busAt n
 unfolding busAt
 unpacked n b e = e

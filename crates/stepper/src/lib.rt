@@ -16,7 +16,7 @@ ghost use Rattle.tally.specs.Bounds.{Within};
 ghost use Rattle.execute.specs.Performs.{Performs};
 
 // The count once one more step is done.
-fn count_on(count: u32) -> u32
+pub fn count_on(count: u32) -> u32
     ensures { λ r. ⌜ r ≡ risen rule count ⌝ }
 {
     if count < 2097151 { count + 1 } else { 2097151 }
