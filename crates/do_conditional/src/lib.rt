@@ -39,7 +39,7 @@ fn jump_if(file: &mut [u16; 14], b: bool, disp: u16)
     }
 }
 
-fn branch_if(file: &mut [u16; 14], n: u8, disp: u16)
+pub fn branch_if(file: &mut [u16; 14], n: u8, disp: u16)
     ensures { λ _. ⌜ OnFile Unit (tree.branchIf n disp) (now (file .entry)) tt (now (file .exit)) ⌝ }
 {
     let b = condition(file, n);

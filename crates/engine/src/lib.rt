@@ -78,7 +78,7 @@ fn carry_out(
 }
 
 // The instruction at PS:PC, of a machine that has passed the checks 1 and 2.
-fn advance(
+pub fn advance(
     file: &mut [u16; 14],
     ram: &mut [u8],
     rom: &[u8],

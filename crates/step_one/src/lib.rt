@@ -16,7 +16,7 @@ ghost use Rattle.mach_tally.specs.Bounds.{Within};
 ghost use Rattle.step_execute.specs.Performs.{Performs};
 
 // The count once one more step is done.
-fn count_on(count: u32) -> u32
+pub fn count_on(count: u32) -> u32
     ensures { λ r. ⌜ r ≡ risen rule count ⌝ }
 {
     if count < u32::MAX {

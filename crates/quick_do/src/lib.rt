@@ -1,0 +1,167 @@
+// What readings do that need the registers alone, and the addresses of the others.
+use registers::PSW;
+use sheet::Operation;
+ghost use mathlib.Core.Path.{_≡_};
+ghost use Prim.Native.Nat.{_≤_, _<_};
+ghost use Rattle.sheet.specs.declared.Place.the-variants.{Register};
+ghost use Rattle.sheet.specs.declared.Source.the-variants.{Held, Immediate};
+ghost use Rattle.sheet.specs.declared.Spot.the-variants.{InRegister};
+ghost use Rattle.sheet.specs.Registers.{fileOf, readReg};
+ghost use Rattle.sheet.specs.Operand.{formAt, formOffset, offsetOf, baseOf};
+ghost use Rattle.sheet.specs.FirstByte.{operationAt};
+ghost use Rattle.sheet.specs.Arithmetic as tree;
+ghost use Rattle.sheet.specs.Transfer.{mov};
+ghost use Rattle.sheet.specs.Branch.{branchIf};
+ghost use Rattle.sheet.specs.Contract.{OnFile};
+ghost use Rattle.quick_place.specs.Packed.{opOf, condOf, wordOf, rmOf, regOf, dispOf, immOf, addressOf};
+ghost use Rattle.quick_do.specs.Settle.{settle};
+
+// ---- the reading's fields
+
+pub fn word_of(r: u64) -> bool
+    ensures { λ x. ⌜ x ≡ wordOf r ⌝ }
+{
+    r / 268435456 % 2 == 1
+}
+
+pub fn op_of(r: u64) -> Operation
+    ensures { λ x. ⌜ x ≡ operationAt (opOf r) ⌝ }
+{
+    match r / 1048576 % 8 {
+        0 => Operation::Add,
+        1 => Operation::Or,
+        2 => Operation::Addc,
+        3 => Operation::Subc,
+        4 => Operation::And,
+        5 => Operation::Sub,
+        6 => Operation::Xor,
+        _ => Operation::Cmp,
+    }
+}
+
+pub fn rm_of(r: u64) -> u8
+    ensures { λ x. ⌜ x ≡ rmOf r ⌝ }
+{
+    (r / 4096 % 16) as u8
+}
+
+pub fn reg_of(r: u64) -> u8
+    ensures { λ x. ⌜ x ≡ regOf r ⌝ }
+{
+    (r / 65536 % 16) as u8
+}
+
+pub fn disp_of(r: u64) -> u16
+    ensures { λ x. ⌜ x ≡ dispOf r ⌝ }
+{
+    (r / 4294967296 % 65536) as u16
+}
+
+// ---- addresses
+
+// A form's base register.
+fn base_at(n: u64) -> usize
+    ensures { λ x. ⌜ (x ≡ formAt n .base) × (x ≤ 7) ⌝ }
+{
+    match n % 8 {
+        0 => 3,
+        1 => 3,
+        2 => 5,
+        3 => 5,
+        4 => 6,
+        5 => 7,
+        6 => 5,
+        _ => 3,
+    }
+}
+
+fn form_offset(file: &[u16; 14], n: u64, disp: u16) -> u16
+    ensures { λ x. ⌜ x ≡ formOffset (fileOf (now (file .entry))) (formAt n) disp ⌝ }
+{
+    let b = base_at(n);
+    let low = word::plus16(file[b], disp);
+    if n % 8 < 4 {
+        let i = 6 + (n % 2) as usize;
+        return word::plus16(low, file[i]);
+    }
+    low
+}
+
+pub fn offset(file: &[u16; 14], r: u64) -> u16
+    ensures { λ x. ⌜ x ≡ offsetOf (fileOf (now (file .entry))) (addressOf r) ⌝ }
+{
+    let disp = disp_of(r);
+    let rm = r / 4096 % 16;
+    if rm == 8 {
+        return disp;
+    }
+    form_offset(file, rm, disp)
+}
+
+pub fn base(file: &[u16; 14], r: u64) -> u16
+    ensures { λ x. ⌜ x ≡ baseOf (fileOf (now (file .entry))) (addressOf r) ⌝ }
+{
+    registers::base(file, (r / 16777216 % 4) as u8)
+}
+
+// ---- operations
+
+// CMP drops the difference.
+fn conclude(file: &mut [u16; 14], op: Operation, word: bool, n: u8, v: u16)
+    ensures { λ _. ⌜ OnFile Unit (tree.conclude op word (InRegister n) v) (now (file .entry)) tt (now (file .exit)) ⌝ }
+{
+    match op {
+        Operation::Add => registers::set_reg(word, file, n, v),
+        Operation::Or => registers::set_reg(word, file, n, v),
+        Operation::Addc => registers::set_reg(word, file, n, v),
+        Operation::Subc => registers::set_reg(word, file, n, v),
+        Operation::And => registers::set_reg(word, file, n, v),
+        Operation::Sub => registers::set_reg(word, file, n, v),
+        Operation::Xor => registers::set_reg(word, file, n, v),
+        Operation::Cmp => {}
+    }
+}
+
+// An operation on a register and a number.
+pub fn alu_to(file: &mut [u16; 14], op: Operation, word: bool, to: u8, b: u16)
+    ensures { λ _. ⌜ OnFile Unit (settle op word (InRegister to) (readReg word (fileOf (now (file .entry))) to) b) (now (file .entry)) tt (now (file .exit)) ⌝ }
+{
+    let a = registers::reg(word, file, to);
+    let x = arith::operate(op, word, a, b, file[PSW]);
+    file[PSW] = x.psw;
+    conclude(file, op, word, to, x.value);
+}
+
+// Kind 1: an operation on two registers.
+pub fn alu_rr(file: &mut [u16; 14], r: u64)
+    ensures { λ _. ⌜ OnFile Unit (tree.two (operationAt (opOf r)) (wordOf r) (Register (rmOf r)) (Held (Register (regOf r)))) (now (file .entry)) tt (now (file .exit)) ⌝ }
+{
+    let op = op_of(r);
+    let word = word_of(r);
+    let b = registers::reg(word, file, reg_of(r));
+    alu_to(file, op, word, rm_of(r), b);
+}
+
+// Kind 4: MOV reg,reg.
+pub fn mov_rr(file: &mut [u16; 14], r: u64)
+    ensures { λ _. ⌜ OnFile Unit (mov (wordOf r) (Register (rmOf r)) (Held (Register (regOf r)))) (now (file .entry)) tt (now (file .exit)) ⌝ }
+{
+    let word = word_of(r);
+    let v = registers::reg(word, file, reg_of(r));
+    registers::set_reg(word, file, rm_of(r), v);
+}
+
+// Kind 7: MOV reg,imm.
+pub fn mov_ri(file: &mut [u16; 14], r: u64)
+    ensures { λ _. ⌜ OnFile Unit (mov (wordOf r) (Register (rmOf r)) (Immediate (immOf r))) (now (file .entry)) tt (now (file .exit)) ⌝ }
+{
+    let word = word_of(r);
+    registers::set_reg(word, file, rm_of(r), (r / 281474976710656) as u16);
+}
+
+// Kind 10: a conditional branch.
+pub fn branch_if(file: &mut [u16; 14], r: u64)
+    ensures { λ _. ⌜ OnFile Unit (branchIf (condOf r) (dispOf r)) (now (file .entry)) tt (now (file .exit)) ⌝ }
+{
+    do_conditional::branch_if(file, (r / 1048576 % 16) as u8, disp_of(r));
+}

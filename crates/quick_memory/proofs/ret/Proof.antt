@@ -1,0 +1,20 @@
+use Rattle.quick_memory.proofs.Laws.{ret-is}
+use borrow.Author.Needs.{needs}
+use Rattle.quick_memory.proofs.ret.Statement.{statement}
+use Rattle.quick_memory.proofs.ret.Tie as tie
+
+returns : tie.Need-returns
+returns c = search (ret-is, needs)
+
+pub ret-spec : {M : Type 1} → statement M
+ret-spec =
+    tie.close
+    (tie.spec
+    (λ c. search needs)
+    (λ c. search needs)
+    (λ c κs. search needs)
+    (λ c. search needs)
+    (λ c κs. search needs)
+    (λ c. search needs)
+    (λ c κs. search needs)
+    returns)

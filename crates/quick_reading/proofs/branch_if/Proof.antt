@@ -1,0 +1,11 @@
+use Rattle.quick_reading.proofs.Laws.{branch-is}
+use borrow.Author.Needs.{needs}
+use Rattle.quick_reading.proofs.branch_if.Statement.{statement}
+use Rattle.quick_reading.proofs.branch_if.Tie as tie
+
+returns : tie.Need-returns
+returns c = search (branch-is, needs)
+
+pub branch-if-spec : {M : Type 1} → statement M
+branch-if-spec =
+    tie.close (tie.spec (λ c κs. search needs) (λ c. search needs) (λ c. search needs) (λ c. search needs) (λ c. search needs) returns)

@@ -1,0 +1,10 @@
+use borrow.Author.Needs.{needs}
+use Rattle.quick_reading.proofs.Laws.{ret-is}
+use Rattle.quick_reading.proofs.ret.Statement.{statement}
+use Rattle.quick_reading.proofs.ret.Tie as tie
+
+returns : tie.Need-returns
+returns c = search (ret-is, needs)
+
+pub ret-spec : {M : Type 1} → statement M
+ret-spec = tie.close (tie.spec returns)

@@ -1,0 +1,47 @@
+-- What each return of the code comes to, over plain values.
+use Prim.Native.Nat.{ℕ, zero, suc, _+_, _*_, _/_, _%_, _≤_}
+use mathlib.Core.Path.{_≡_, refl, ap, _∙_}
+use mathlib.Core.Bool.{Bool, true, false}
+use mathlib.Core.List.{List, [], _∷_}
+use native.Mathlib.Omega.{arith}
+use lib.Dec.{eqb, lit≤}
+use lib.ListN.{getD, set, length, replicate}
+use Rattle.sheet.specs.declared.Marks.{Marks}
+use Rattle.sheet.specs.declared.Progress.{Progress}
+use Rattle.sheet.specs.Width.{pick, odd}
+use Rattle.sheet.specs.World.{marksOf, progressOf}
+use Rattle.quick_stand.specs.Stand.{progressAt, marksAt, Lent, Holds}
+
+pub progress-is : (p : List ℕ) (q : Progress) → q ≡ progressOf (getD p 0 0) (getD p 1 0) (getD p 2 0) → q ≡ progressAt p
+unfolding progressAt
+progress-is p q e = e
+
+pub marks-are : (p : List ℕ) (m : Marks) → m ≡ marksOf (eqb (getD p 3 0 % 2) 1) (eqb (getD p 3 0 / 2 % 2) 1) → m ≡ marksAt p
+unfolding marksAt
+marks-are p m e = e
+
+-- four numbers put down, one after the other
+in-order : (p : List ℕ) (a b c d : ℕ) → length p ≡ 4 → set (set (set (set p 0 a) 1 b) 2 c) 3 d ≡ a ∷ b ∷ c ∷ d ∷ []
+in-order [] a b c d h = absurd (omega arith)
+in-order (w ∷ []) a b c d h = absurd (omega arith)
+in-order (w ∷ x ∷ []) a b c d h = absurd (omega arith)
+in-order (w ∷ x ∷ y ∷ []) a b c d h = absurd (omega arith)
+in-order (w ∷ x ∷ y ∷ z ∷ []) a b c d h = refl
+in-order (w ∷ x ∷ y ∷ z ∷ u ∷ p) a b c d h = absurd (omega arith)
+
+bits : (h l : Bool) → marksOf (odd (pick h 1 0 + 2 * pick l 1 0)) (odd ((pick h 1 0 + 2 * pick l 1 0) / 2)) ≡ marksOf h l
+bits true true = refl
+bits true false = refl
+bits false true = refl
+bits false false = refl
+
+four-hold : (m : Marks) (q : Progress) → q .count ≤ 4294967295 → Holds (q .tape ∷ q .log ∷ q .count ∷ (pick (m .halted) 1 0 + 2 * pick (m .loaded) 1 0) ∷ []) m q
+unfolding progressAt marksAt
+four-hold m q h = record { marks = bits (m .halted) (m .loaded); progress = refl; lent = record { long = refl; small = h } }
+
+pub keeps : (p p′ : List ℕ) (m : Marks) (q : Progress) (h l : ℕ) → Lent p → (h ≡ pick (m .halted) 1 0) × (h ≤ 1) → (l ≡ pick (m .loaded) 1 0) × (l ≤ 1) → q .count ≤ 4294967295
+    → p′ ≡ set (set (set (set p 0 (q .tape)) 1 (q .log)) 2 (q .count)) 3 (h + 2 * l) → Holds p′ m q
+keeps p p′ m q h l x (y, y′) (z, z′) k e = rw (e, in-order p (q .tape) (q .log) (q .count) (h + 2 * l) (x .long), y, z) (four-hold m q k)
+
+pub lent-zeros : (p : List ℕ) → p ≡ replicate 4 0 → Lent p
+lent-zeros p e = rw e (record { long = refl; small = lit≤ tt })

@@ -1,0 +1,85 @@
+// One step of the quicker run: by a reading where there is one, else by the general path.
+use registers::PC;
+use registers::PS;
+use registers::PSW;
+ghost use mathlib.Core.Bool.{false};
+ghost use Rattle.sheet.specs.World.{marksOf};
+ghost use Rattle.stepper.specs.Proceeds.{begunAt};
+ghost use Rattle.quick_reading.specs.Readings.{Remembers};
+ghost use Rattle.quick_stand.specs.Stand.{progressAt, Lent, Holds};
+ghost use Rattle.quick_step.specs.Ready.{Ready};
+ghost use Rattle.quick_step.specs.Turns.{Turns};
+
+// The reading of the instruction at PS:PC, or 0: a machine that is halted or traced takes the general path.
+fn next(file: &[u16; 14], stand: &[usize; 4], memo: &mut [u64; 2048], ram: &[u8], rom: &[u8]) -> u64
+    requires { ⌜ Remembers (now memo) ⌝ }
+    ensures { λ r. ⌜ Ready (now (file .entry)) (now (stand .entry)) (now (ram .entry)) (now (rom .entry)) r × Remembers (now (memo .exit)) ⌝ }
+{
+    if stand[3] % 2 == 1 {
+        return 0;
+    }
+    let traced = flags::brk(file[PSW]);
+    if traced {
+        return 0;
+    }
+    let ps = file[PS];
+    let pc = word::word(file[PC]);
+    let w = quick_window::window(ram, rom, ps, pc);
+    quick_reading::recall(memo, pc, w)
+}
+
+// The count rises; no reading loads a segment register or halts.
+fn begin(stand: &mut [usize; 4])
+    requires { ⌜ Lent (now stand) ⌝ }
+    ensures { λ _. ⌜ Holds (now (stand .exit)) (marksOf false false) (begunAt (progressAt (now (stand .entry)))) ⌝ }
+{
+    let count = stepper::count_on(stand[2] as u32);
+    stand[2] = count as usize;
+    stand[3] = 0;
+}
+
+fn general(
+    file: &mut [u16; 14],
+    stand: &mut [usize; 4],
+    ram: &mut [u8],
+    rom: &[u8],
+    tape: &[u8],
+    log: &mut [u8],
+) -> u64
+    requires { ⌜ Lent (now stand) ⌝ }
+    ensures { λ x. ⌜ Turns (now (file .entry)) (now (stand .entry)) (now (ram .entry)) (now (rom .entry)) (now (tape .entry)) (now (log .entry)) x (now (file .exit)) (now (stand .exit)) (now (ram .exit)) (now (log .exit)) ⌝ }
+{
+    let m = quick_stand::marks(stand);
+    let q = quick_stand::progress(stand);
+    let a = engine::advance(file, ram, rom, tape, log, m, q);
+    if !a.done {
+        return a.number as u64;
+    }
+    let marks = a.marks;
+    let progress = a.progress;
+    quick_stand::keep(stand, marks, progress);
+    let n = quick_tally::of_bus(a.bus);
+    256 + n
+}
+
+// Of a machine that has passed the checks 1 and 2.
+pub fn turn(
+    file: &mut [u16; 14],
+    stand: &mut [usize; 4],
+    memo: &mut [u64; 2048],
+    ram: &mut [u8],
+    rom: &[u8],
+    tape: &[u8],
+    log: &mut [u8],
+) -> u64
+    requires { ⌜ Lent (now stand) × Remembers (now memo) ⌝ }
+    ensures { λ x. ⌜ Turns (now (file .entry)) (now (stand .entry)) (now (ram .entry)) (now (rom .entry)) (now (tape .entry)) (now (log .entry)) x (now (file .exit)) (now (stand .exit)) (now (ram .exit)) (now (log .exit)) × Remembers (now (memo .exit)) ⌝ }
+{
+    let r = next(file, stand, memo, ram, rom);
+    if r != 0 {
+        let n = quick_perform::perform(file, ram, rom, r);
+        begin(stand);
+        return 256 + n;
+    }
+    general(file, stand, ram, rom, tape, log)
+}
