@@ -26,10 +26,10 @@ use Rattle.sheet.specs.Transfer.{mov}
 use Rattle.sheet.specs.Branch.{branchIf}
 use Rattle.sheet.specs.Contract.{OnFile, flagged}
 use Rattle.sheet.proofs.Lifted.{file-pure, file-seq, file-registers, file-set}
-use Rattle.psw.proofs.Results.{file-affect, value-is}
-use Rattle.registers.proofs.Laws.{file-reg, file-word}
-use Rattle.arith.specs.Operate.{operated}
-use Rattle.arith.proofs.OperateLaws.{operate-ends}
+use Rattle.calc_psw.proofs.Results.{file-affect, value-is}
+use Rattle.mach_registers.proofs.Laws.{file-reg, file-word}
+use Rattle.calc_arith.specs.Operate.{operated}
+use Rattle.calc_arith.proofs.OperateLaws.{operate-ends}
 use Rattle.quick_place.specs.Packed.{opOf, condOf, wordOf, rmOf, regOf, segOf, dispOf, immOf, addressAt, addressOf}
 use Rattle.quick_do.specs.Settle.{settle}
 

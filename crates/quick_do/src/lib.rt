@@ -1,5 +1,5 @@
 // What readings do that need the registers alone, and the addresses of the others.
-use registers::PSW;
+use mach_registers::PSW;
 use sheet::Operation;
 ghost use mathlib.Core.Path.{_≡_};
 ghost use Prim.Native.Nat.{_≤_, _<_};
@@ -79,10 +79,10 @@ fn form_offset(file: &[u16; 14], n: u64, disp: u16) -> u16
     ensures { λ x. ⌜ x ≡ formOffset (fileOf (now (file .entry))) (formAt n) disp ⌝ }
 {
     let b = base_at(n);
-    let low = word::plus16(file[b], disp);
+    let low = calc_word::plus16(file[b], disp);
     if n % 8 < 4 {
         let i = 6 + (n % 2) as usize;
-        return word::plus16(low, file[i]);
+        return calc_word::plus16(low, file[i]);
     }
     low
 }
@@ -101,7 +101,7 @@ pub fn offset(file: &[u16; 14], r: u64) -> u16
 pub fn base(file: &[u16; 14], r: u64) -> u16
     ensures { λ x. ⌜ x ≡ baseOf (fileOf (now (file .entry))) (addressOf r) ⌝ }
 {
-    registers::base(file, (r / 16777216 % 4) as u8)
+    mach_registers::base(file, (r / 16777216 % 4) as u8)
 }
 
 // ---- operations
@@ -111,13 +111,13 @@ fn conclude(file: &mut [u16; 14], op: Operation, word: bool, n: u8, v: u16)
     ensures { λ _. ⌜ OnFile Unit (tree.conclude op word (InRegister n) v) (now (file .entry)) tt (now (file .exit)) ⌝ }
 {
     match op {
-        Operation::Add => registers::set_reg(word, file, n, v),
-        Operation::Or => registers::set_reg(word, file, n, v),
-        Operation::Addc => registers::set_reg(word, file, n, v),
-        Operation::Subc => registers::set_reg(word, file, n, v),
-        Operation::And => registers::set_reg(word, file, n, v),
-        Operation::Sub => registers::set_reg(word, file, n, v),
-        Operation::Xor => registers::set_reg(word, file, n, v),
+        Operation::Add => mach_registers::set_reg(word, file, n, v),
+        Operation::Or => mach_registers::set_reg(word, file, n, v),
+        Operation::Addc => mach_registers::set_reg(word, file, n, v),
+        Operation::Subc => mach_registers::set_reg(word, file, n, v),
+        Operation::And => mach_registers::set_reg(word, file, n, v),
+        Operation::Sub => mach_registers::set_reg(word, file, n, v),
+        Operation::Xor => mach_registers::set_reg(word, file, n, v),
         Operation::Cmp => {}
     }
 }
@@ -126,8 +126,8 @@ fn conclude(file: &mut [u16; 14], op: Operation, word: bool, n: u8, v: u16)
 pub fn alu_to(file: &mut [u16; 14], op: Operation, word: bool, to: u8, b: u16)
     ensures { λ _. ⌜ OnFile Unit (settle op word (InRegister to) (readReg word (fileOf (now (file .entry))) to) b) (now (file .entry)) tt (now (file .exit)) ⌝ }
 {
-    let a = registers::reg(word, file, to);
-    let x = arith::operate(op, word, a, b, file[PSW]);
+    let a = mach_registers::reg(word, file, to);
+    let x = calc_arith::operate(op, word, a, b, file[PSW]);
     file[PSW] = x.psw;
     conclude(file, op, word, to, x.value);
 }
@@ -138,7 +138,7 @@ pub fn alu_rr(file: &mut [u16; 14], r: u64)
 {
     let op = op_of(r);
     let word = word_of(r);
-    let b = registers::reg(word, file, reg_of(r));
+    let b = mach_registers::reg(word, file, reg_of(r));
     alu_to(file, op, word, rm_of(r), b);
 }
 
@@ -147,8 +147,8 @@ pub fn mov_rr(file: &mut [u16; 14], r: u64)
     ensures { λ _. ⌜ OnFile Unit (mov (wordOf r) (Register (rmOf r)) (Held (Register (regOf r)))) (now (file .entry)) tt (now (file .exit)) ⌝ }
 {
     let word = word_of(r);
-    let v = registers::reg(word, file, reg_of(r));
-    registers::set_reg(word, file, rm_of(r), v);
+    let v = mach_registers::reg(word, file, reg_of(r));
+    mach_registers::set_reg(word, file, rm_of(r), v);
 }
 
 // Kind 7: MOV reg,imm.
@@ -156,7 +156,7 @@ pub fn mov_ri(file: &mut [u16; 14], r: u64)
     ensures { λ _. ⌜ OnFile Unit (mov (wordOf r) (Register (rmOf r)) (Immediate (immOf r))) (now (file .entry)) tt (now (file .exit)) ⌝ }
 {
     let word = word_of(r);
-    registers::set_reg(word, file, rm_of(r), (r / 281474976710656) as u16);
+    mach_registers::set_reg(word, file, rm_of(r), (r / 281474976710656) as u16);
 }
 
 // Kind 10: a conditional branch.

@@ -31,17 +31,17 @@ use Rattle.sheet.specs.Stack.{pushRegister, popPlace}
 use Rattle.sheet.specs.Branch.{jump, pushPc, callNear, ret}
 use Rattle.sheet.specs.Contract.{OnFile, OnMemory, flagged}
 use Rattle.sheet.proofs.Lifted.{file-pure, file-seq, file-registers, file-set, memory-seq, memory-free, memory-last, memory-at-most, on-memory}
-use Rattle.psw.proofs.Results.{file-affect, value-is}
-use Rattle.registers.proofs.Laws.{file-reg}
-use Rattle.arith.specs.Operate.{operated}
-use Rattle.arith.proofs.OperateLaws.{operate-ends}
-use Rattle.memory.specs.Accesses.{Writes, Loads, Stores}
-use Rattle.memory.proofs.Laws.{loads, stores}
-use Rattle.traps.proofs.Laws.{push-is, pop-is}
+use Rattle.calc_psw.proofs.Results.{file-affect, value-is}
+use Rattle.mach_registers.proofs.Laws.{file-reg}
+use Rattle.calc_arith.specs.Operate.{operated}
+use Rattle.calc_arith.proofs.OperateLaws.{operate-ends}
+use Rattle.mach_memory.specs.Accesses.{Writes, Loads, Stores}
+use Rattle.mach_memory.proofs.Laws.{loads, stores}
+use Rattle.mach_stack.proofs.Laws.{push-is, pop-is}
 use Rattle.quick_place.specs.Packed.{opOf, wordOf, rmOf, regOf, dispOf, immOf, addressOf}
-use Rattle.tally.specs.Sums.{Free, Costs, Joins}
+use Rattle.mach_tally.specs.Sums.{Free, Costs, Joins}
 use Rattle.quick_tally.specs.Packed.{busAt}
-use Rattle.tally.proofs.Bounds.{within-access, within-memory}
+use Rattle.mach_tally.proofs.Bounds.{within-access, within-memory}
 use Rattle.quick_tally.proofs.Laws.{both-fit}
 use Rattle.quick_do.specs.Settle.{settle}
 use Rattle.quick_memory.specs.Settled.{Moved, Operated}

@@ -1,8 +1,8 @@
 // What readings do that touch memory.
-use registers::PC;
-use registers::PSW;
-use registers::SP;
-use registers::SS;
+use mach_registers::PC;
+use mach_registers::PSW;
+use mach_registers::SP;
+use mach_registers::SS;
 ghost use Rattle.sheet.specs.declared.Place.the-variants.{Register, Memory};
 ghost use Rattle.sheet.specs.declared.Source.the-variants.{Held, Immediate};
 ghost use Rattle.sheet.specs.declared.Spot.the-variants.{InMemory};
@@ -11,8 +11,8 @@ ghost use Rattle.sheet.specs.Arithmetic.{two, conclude};
 ghost use Rattle.sheet.specs.Transfer.{mov};
 ghost use Rattle.sheet.specs.Stack.{pushRegister, popPlace};
 ghost use Rattle.sheet.specs.Branch.{callNear, ret as retOf};
-ghost use Rattle.tally.specs.Lent.{Does, Takes, Fills};
-ghost use Rattle.memory.specs.Accesses.{Stores};
+ghost use Rattle.mach_tally.specs.Lent.{Does, Takes, Fills};
+ghost use Rattle.mach_memory.specs.Accesses.{Stores};
 ghost use Rattle.quick_tally.specs.Packed.{busAt};
 ghost use Rattle.quick_place.specs.Packed.{opOf, wordOf, rmOf, regOf, dispOf, immOf, addressOf};
 ghost use Rattle.quick_memory.specs.Settled.{Moved, Operated};
@@ -20,7 +20,7 @@ ghost use Rattle.quick_memory.specs.Settled.{Moved, Operated};
 fn store(word: bool, ram: &mut [u8], g: u16, o: u16, v: u16) -> u64
     ensures { λ n. ⌜ Stores word (now (ram .entry)) g o v (now (ram .exit)) (busAt n) ⌝ }
 {
-    let dropped = memory::write(word, ram, g, o, v);
+    let dropped = mach_memory::write(word, ram, g, o, v);
     quick_tally::of_write(word, o, dropped)
 }
 
@@ -33,8 +33,8 @@ pub fn mov_rm(file: &mut [u16; 14], ram: &[u8], rom: &[u8], r: u64) -> u64
     let word = quick_do::word_of(r);
     let g = quick_do::base(file, r);
     let o = quick_do::offset(file, r);
-    let v = memory::read(word, ram, rom, g, o);
-    registers::set_reg(word, file, quick_do::reg_of(r), v);
+    let v = mach_memory::read(word, ram, rom, g, o);
+    mach_registers::set_reg(word, file, quick_do::reg_of(r), v);
     quick_tally::of_access(word, o)
 }
 
@@ -51,7 +51,7 @@ fn mov_to(file: &[u16; 14], ram: &mut [u8], rom: &[u8], r: u64, v: u16) -> u64
 pub fn mov_mr(file: &[u16; 14], ram: &mut [u8], rom: &[u8], r: u64) -> u64
     ensures { λ n. ⌜ Fills Unit (mov (wordOf r) (Memory (addressOf r)) (Held (Register (regOf r)))) file ram rom tt (busAt n) 6 ⌝ }
 {
-    let v = registers::reg(quick_do::word_of(r), file, quick_do::reg_of(r));
+    let v = mach_registers::reg(quick_do::word_of(r), file, quick_do::reg_of(r));
     mov_to(file, ram, rom, r, v)
 }
 
@@ -71,7 +71,7 @@ pub fn alu_rm(file: &mut [u16; 14], ram: &[u8], rom: &[u8], r: u64) -> u64
     let word = quick_do::word_of(r);
     let g = quick_do::base(file, r);
     let o = quick_do::offset(file, r);
-    let b = memory::read(word, ram, rom, g, o);
+    let b = mach_memory::read(word, ram, rom, g, o);
     let op = quick_do::op_of(r);
     quick_do::alu_to(file, op, word, quick_do::reg_of(r), b);
     quick_tally::of_access(word, o)
@@ -102,8 +102,8 @@ fn alu_at(file: &mut [u16; 14], ram: &mut [u8], rom: &[u8], r: u64, b: u16) -> u
     let word = quick_do::word_of(r);
     let g = quick_do::base(file, r);
     let o = quick_do::offset(file, r);
-    let a = memory::read(word, ram, rom, g, o);
-    let x = arith::operate(quick_do::op_of(r), word, a, b, file[PSW]);
+    let a = mach_memory::read(word, ram, rom, g, o);
+    let x = calc_arith::operate(quick_do::op_of(r), word, a, b, file[PSW]);
     file[PSW] = x.psw;
     let n = quick_tally::of_access(word, o);
     quick_tally::both(n, put(file, ram, rom, r, word, g, o, x.value))
@@ -113,7 +113,7 @@ fn alu_at(file: &mut [u16; 14], ram: &mut [u8], rom: &[u8], r: u64, b: u16) -> u
 pub fn alu_mr(file: &mut [u16; 14], ram: &mut [u8], rom: &[u8], r: u64) -> u64
     ensures { λ n. ⌜ Does (two (operationAt (opOf r)) (wordOf r) (Memory (addressOf r)) (Held (Register (regOf r)))) file ram rom (busAt n) 6 ⌝ }
 {
-    let b = registers::reg(quick_do::word_of(r), file, quick_do::reg_of(r));
+    let b = mach_registers::reg(quick_do::word_of(r), file, quick_do::reg_of(r));
     alu_at(file, ram, rom, r, b)
 }
 
@@ -130,10 +130,10 @@ pub fn alu_mi(file: &mut [u16; 14], ram: &mut [u8], rom: &[u8], r: u64) -> u64
 pub fn push_r(file: &mut [u16; 14], ram: &mut [u8], rom: &[u8], r: u64) -> u64
     ensures { λ n. ⌜ Does (pushRegister (rmOf r)) file ram rom (busAt n) 6 ⌝ }
 {
-    file[SP] = word::minus16(file[SP], 2);
+    file[SP] = calc_word::minus16(file[SP], 2);
     let ss = file[SS];
     let sp = file[SP];
-    let v = registers::reg(true, file, quick_do::rm_of(r));
+    let v = mach_registers::reg(true, file, quick_do::rm_of(r));
     store(true, ram, ss, sp, v)
 }
 
@@ -143,9 +143,9 @@ pub fn pop_r(file: &mut [u16; 14], ram: &[u8], rom: &[u8], r: u64) -> u64
 {
     let sp = file[SP];
     let ss = file[SS];
-    file[SP] = word::plus16(sp, 2);
-    let v = memory::read(true, ram, rom, ss, sp);
-    registers::set_reg(true, file, quick_do::rm_of(r), v);
+    file[SP] = calc_word::plus16(sp, 2);
+    let v = mach_memory::read(true, ram, rom, ss, sp);
+    mach_registers::set_reg(true, file, quick_do::rm_of(r), v);
     quick_tally::of_access(true, sp)
 }
 
@@ -154,11 +154,11 @@ pub fn call(file: &mut [u16; 14], ram: &mut [u8], rom: &[u8], r: u64) -> u64
     ensures { λ n. ⌜ Does (callNear (dispOf r)) file ram rom (busAt n) 6 ⌝ }
 {
     let pc = file[PC];
-    let sp = word::minus16(file[SP], 2);
+    let sp = calc_word::minus16(file[SP], 2);
     let ss = file[SS];
     file[SP] = sp;
     let n = store(true, ram, ss, sp, pc);
-    jumps::jump(file, quick_do::disp_of(r));
+    mach_jump::jump(file, quick_do::disp_of(r));
     n
 }
 
@@ -168,7 +168,7 @@ pub fn ret(file: &mut [u16; 14], ram: &[u8], rom: &[u8]) -> u64
 {
     let sp = file[SP];
     let ss = file[SS];
-    file[SP] = word::plus16(sp, 2);
-    file[PC] = memory::read(true, ram, rom, ss, sp);
+    file[SP] = calc_word::plus16(sp, 2);
+    file[PC] = mach_memory::read(true, ram, rom, ss, sp);
     quick_tally::of_access(true, sp)
 }

@@ -1,8 +1,8 @@
 // A reading done, by its kind.
-use registers::PC;
+use mach_registers::PC;
 ghost use mathlib.Core.Bool.{Bool, false};
 ghost use Rattle.sheet.specs.Execute.{operation, execute};
-ghost use Rattle.tally.specs.Lent.{Gives};
+ghost use Rattle.mach_tally.specs.Lent.{Gives};
 ghost use Rattle.quick_tally.specs.Packed.{busAt};
 ghost use Rattle.quick_place.specs.Packed.{sizeOf};
 ghost use Rattle.quick_reading.specs.Readings.{instrOf};
@@ -45,6 +45,6 @@ pub fn perform(file: &mut [u16; 14], ram: &mut [u8], rom: &[u8], r: u64) -> u64
     ensures { λ n. ⌜ Gives Bool (execute (instrOf r) (sizeOf r)) file ram rom false (busAt n) 1020 ⌝ }
 {
     let start = file[PC];
-    file[PC] = word::plus16(start, (r / 256 % 16) as u16);
+    file[PC] = calc_word::plus16(start, (r / 256 % 16) as u16);
     operate(file, ram, rom, r, start)
 }

@@ -13,8 +13,8 @@ use Rattle.sheet.specs.Reading.{byte, word, signedByte}
 use Rattle.sheet.specs.Encoding.{segOr, formed, direct, modField, memField, address, displacement}
 use Rattle.sheet.specs.Contract.{Reads}
 use Rattle.sheet.proofs.ReadingLaws.{reads-byte, reads-seq, reads-got}
-use Rattle.answers.specs.Answer.{Takes}
-use Rattle.places.proofs.Laws.{displacement-none, displacement-byte, displacement-word, address-direct, address-formed}
+use Rattle.code_answer.specs.Answer.{Takes}
+use Rattle.code_operand.proofs.Laws.{displacement-none, displacement-byte, displacement-word, address-direct, address-formed}
 use Rattle.quick_place.specs.Packed.{byteOf, modRegMem, addressAt, prefixesOf, Addresses}
 
 -- ---- the bytes of a window

@@ -10,7 +10,7 @@ use Rattle.sheet.specs.declared.Prefixes.{Prefixes}
 use Rattle.sheet.specs.declared.Repeat.the-variants.{Once}
 use Rattle.sheet.specs.Width.{pick, odd}
 use Rattle.sheet.specs.Encoding.{modField, memField, address}
-use Rattle.answers.specs.Answer.{Takes}
+use Rattle.code_answer.specs.Answer.{Takes}
 
 -- the bytes of a window, the lowest first
 unfoldable pub byteOf : ℕ → ℕ → ℕ

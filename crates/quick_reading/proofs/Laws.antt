@@ -27,18 +27,18 @@ use Rattle.sheet.specs.Encoding.{unprefixed, withPrefix, Prefix, prefixOf, segm
 use Rattle.sheet.specs.FirstByte.{instruction, prefixed, afterPrefix, operationAt, firstBytes}
 use Rattle.sheet.specs.Contract.{Reads}
 use Rattle.sheet.proofs.ReadingLaws.{reads-byte, reads-seq, reads-got}
-use Rattle.answers.specs.declared.Decoded.{Decoded}
-use Rattle.answers.specs.declared.Decoded.the-variants.{Known}
-use Rattle.answers.specs.Answer.{Takes, answerOf, Decodes, Names}
-use Rattle.answers.proofs.DecodesLaws.{decodes-seq, decodes-to, known-reads}
-use Rattle.answers.proofs.CodeLaws.{low-bit, low-bits, at-row, at-one}
-use Rattle.answers.proofs.FollowLaws.{decodes-known, with-word, with-short}
-use Rattle.places.specs.Operands.{Operands}
-use Rattle.places.proofs.Laws.{operands-register, operands-memory}
-use Rattle.places.proofs.OperandsLaws.{with-place}
-use Rattle.first_bytes.proofs.Laws.{from-00, from-40, from-80, from-c0}
-use Rattle.codes00.proofs.Laws.{at-places, to-register, to-place}
-use Rattle.codes90.proofs.Laws.{load-register}
+use Rattle.code_answer.specs.declared.Decoded.{Decoded}
+use Rattle.code_answer.specs.declared.Decoded.the-variants.{Known}
+use Rattle.code_answer.specs.Answer.{Takes, answerOf, Decodes, Names}
+use Rattle.code_answer.proofs.DecodesLaws.{decodes-seq, decodes-to, known-reads}
+use Rattle.code_answer.proofs.CodeLaws.{at-row, at-one}
+use Rattle.code_answer.proofs.FollowLaws.{decodes-known, with-word, with-short}
+use Rattle.code_operand.specs.Operands.{Operands}
+use Rattle.code_operand.proofs.Laws.{operands-register, operands-memory}
+use Rattle.code_operand.proofs.OperandsLaws.{with-place}
+use Rattle.code_first.proofs.Laws.{from-00, from-40, from-80, from-c0}
+use Rattle.code_00.proofs.Laws.{at-places, to-register, to-place}
+use Rattle.code_90.proofs.Laws.{load-register}
 use Rattle.quick_place.specs.Packed.{byteOf, modRegMem, kindOf, sizeOf, rmOf, regOf, opOf, condOf, segOf, wordOf, dispOf, immOf, addressAt, addressOf, prefixesOf, Addresses}
 use Rattle.quick_place.proofs.Laws.{byte-0, byte-1, word-1, short-1}
 use Rattle.quick_reading.specs.Readings.{readings, instrOf, First, other, first, Means, general, quick, Remembers}
@@ -139,11 +139,8 @@ below-2 x = omega arith
 op-below : (w : ℕ) → w % 256 < 0x40 → w % 256 / 8 < 8
 op-below w h = omega arith
 
-word-bit : (w : ℕ) → w % 2 ≡ w % 256 % 8 % 2
+word-bit : (w : ℕ) → w % 2 ≡ w % 256 % 2
 word-bit w = omega arith
-
-word-bit-2 : (w : ℕ) → w % 2 ≡ w % 256 % 2
-word-bit-2 w = omega arith
 
 rr-fields : (r k x y o b : ℕ) → k < 256 → x < 8 → y < 8 → o < 8 → b < 2 → r ≡ k + 512 + 4096 * x + 65536 * y + (1048576 * o + 268435456 * b) → Fields r k 2 x y o 0 b 0 0
 rr-fields r k x y o b hk hx hy ho hb e = fields r k 2 x y o 0 b 0 0 hk (lit≤ tt) (omega arith) (omega arith) (omega arith) (lit≤ tt) hb (lit≤ tt) (omega arith)
@@ -171,39 +168,39 @@ mem-plain s w r k g b p a hk hg hb e = mem-fields s w r k g 0 b p a hk hg (lit�
 -- 00 to 3F
 module _ (s w r : ℕ) (low : w % 256 < 0x40) (four : w % 8 < 4) where
   alu-to : (z : ℕ) (a : Place) → w / 2 % 2 ≡ 1 → Operands (prefixesOf s) (byteOf w) 1 (modRegMem w / 8 % 8) a z → z ≤ 4 → sizeOf r ≡ z
-      → instrOf r ≡ Calculates (Two (operationAt (w % 256 / 8)) (eqb (w % 256 % 8 % 2) 1) (Register (modRegMem w / 8 % 8)) (Held a)) → First s w r
+      → instrOf r ≡ Calculates (Two (operationAt (w % 256 / 8)) (eqb (w % 256 % 2) 1) (Register (modRegMem w / 8 % 8)) (Held a)) → First s w r
   alu-to z a d o small size e =
       let k : w % 256 % 8 < 4 = omega arith in
       first (rw size (omega arith)) (low-code (w % 256) low k)
-      (from-00 (prefixesOf s) low (at-places (prefixesOf s) low k refl (to-register o (operationAt (w % 256 / 8)) (w % 256 % 8) (omega arith) (rw (e, size)))))
+      (from-00 (prefixesOf s) low (at-places (prefixesOf s) low k refl (to-register o (operationAt (w % 256 / 8)) (w % 256) (omega arith) (rw (e, size)))))
 
   alu-from : (z : ℕ) (a : Place) → (w / 2 % 2 ≡ 1 → ⊥) → Operands (prefixesOf s) (byteOf w) 1 (modRegMem w / 8 % 8) a z → z ≤ 4 → sizeOf r ≡ z
-      → instrOf r ≡ Calculates (Two (operationAt (w % 256 / 8)) (eqb (w % 256 % 8 % 2) 1) a (Held (Register (modRegMem w / 8 % 8)))) → First s w r
+      → instrOf r ≡ Calculates (Two (operationAt (w % 256 / 8)) (eqb (w % 256 % 2) 1) a (Held (Register (modRegMem w / 8 % 8)))) → First s w r
   alu-from z a d o small size e =
       let k : w % 256 % 8 < 4 = omega arith in
       first (rw size (omega arith)) (low-code (w % 256) low k)
-      (from-00 (prefixesOf s) low (at-places (prefixesOf s) low k refl (to-place o (operationAt (w % 256 / 8)) (w % 256 % 8) (λ z. d (omega arith)) (rw (e, size)))))
+      (from-00 (prefixesOf s) low (at-places (prefixesOf s) low k refl (to-place o (operationAt (w % 256 / 8)) (w % 256) (λ z. d (omega arith)) (rw (e, size)))))
 
   module _ (h : modRegMem w / 64 ≡ 3) where
     pub alu-rr-to : w / 2 % 2 ≡ 1 → r ≡ 513 + 4096 * (modRegMem w / 8 % 8) + 65536 * (modRegMem w % 8) + (1048576 * (w % 256 / 8) + 268435456 * (w % 2)) → First s w r
     alu-rr-to d e =
-        let f = rr-fields r 1 (modRegMem w / 8 % 8) (modRegMem w % 8) (w % 256 / 8) (w % 256 % 8 % 2) (lit≤ tt) (below-8 _) (below-8 _) (op-below w low) (below-2 _) (rw (word-bit w) at e) in
+        let f = rr-fields r 1 (modRegMem w / 8 % 8) (modRegMem w % 8) (w % 256 / 8) (w % 256 % 2) (lit≤ tt) (below-8 _) (below-8 _) (op-below w low) (below-2 _) (rw (word-bit w) at e) in
         alu-to 2 _ d (in-register s w h) (lit≤ tt) (f .size) (is-1 f (op-below w low))
 
     pub alu-rr-from : (w / 2 % 2 ≡ 1 → ⊥) → r ≡ 513 + 4096 * (modRegMem w % 8) + 65536 * (modRegMem w / 8 % 8) + (1048576 * (w % 256 / 8) + 268435456 * (w % 2)) → First s w r
     alu-rr-from d e =
-        let f = rr-fields r 1 (modRegMem w % 8) (modRegMem w / 8 % 8) (w % 256 / 8) (w % 256 % 8 % 2) (lit≤ tt) (below-8 _) (below-8 _) (op-below w low) (below-2 _) (rw (word-bit w) at e) in
+        let f = rr-fields r 1 (modRegMem w % 8) (modRegMem w / 8 % 8) (w % 256 / 8) (w % 256 % 2) (lit≤ tt) (below-8 _) (below-8 _) (op-below w low) (below-2 _) (rw (word-bit w) at e) in
         alu-from 2 _ d (in-register s w h) (lit≤ tt) (f .size) (is-1 f (op-below w low))
 
   module _ (p : ℕ) (h : modRegMem w / 64 ≡ 3 → ⊥) (a : Addresses s w p) where
     pub alu-rm : w / 2 % 2 ≡ 1 → r ≡ 2 + 65536 * (modRegMem w / 8 % 8) + (1048576 * (w % 256 / 8) + 268435456 * (w % 2)) + p → First s w r
     alu-rm d e =
-        let f = mem-fields s w r 2 (modRegMem w / 8 % 8) (w % 256 / 8) (w % 256 % 8 % 2) p a (lit≤ tt) (below-8 _) (op-below w low) (below-2 _) (rw (word-bit w) at e) in
+        let f = mem-fields s w r 2 (modRegMem w / 8 % 8) (w % 256 / 8) (w % 256 % 2) p a (lit≤ tt) (below-8 _) (op-below w low) (below-2 _) (rw (word-bit w) at e) in
         alu-to _ _ d (in-memory s w p h a) (a .short) (f .size) (is-2 f (op-below w low))
 
     pub alu-mr : (w / 2 % 2 ≡ 1 → ⊥) → r ≡ 3 + 65536 * (modRegMem w / 8 % 8) + (1048576 * (w % 256 / 8) + 268435456 * (w % 2)) + p → First s w r
     alu-mr d e =
-        let f = mem-fields s w r 3 (modRegMem w / 8 % 8) (w % 256 / 8) (w % 256 % 8 % 2) p a (lit≤ tt) (below-8 _) (op-below w low) (below-2 _) (rw (word-bit w) at e) in
+        let f = mem-fields s w r 3 (modRegMem w / 8 % 8) (w % 256 / 8) (w % 256 % 2) p a (lit≤ tt) (below-8 _) (op-below w low) (below-2 _) (rw (word-bit w) at e) in
         alu-from _ _ d (in-memory s w p h a) (a .short) (f .size) (is-3 f (op-below w low))
 
 -- 88 to 8B
@@ -212,38 +209,36 @@ module _ (s w r : ℕ) (low : 0x88 ≤ w % 256) (high : w % 256 < 0x8c) where
       → instrOf r ≡ Transfers (Mov (eqb (w % 256 % 2) 1) (Register (modRegMem w / 8 % 8)) (Held a)) → First s w r
   mov-to z a d o small size e =
       let l : 0x8a ≤ w % 256 = omega arith in
-      let q : w % 256 % 2 ≡ _%_ (Prim.Native.Nat._-_ (w % 256) 0x8a) 2 = low-bit 0x8a (w % 256) l refl in
       first (rw size (omega arith)) (high-code (w % 256) (omega arith) (omega arith))
-      (from-80 (prefixesOf s) (omega arith) (omega arith) (at-row 0x8a refl l high (with-place o _ (decodes-known (rw (e, size, q))))))
+      (from-80 (prefixesOf s) (omega arith) (omega arith) (at-row 0x8a refl l high (with-place o _ (decodes-known (rw (e, size))))))
 
   mov-from : (z : ℕ) (a : Place) → (w / 2 % 2 ≡ 1 → ⊥) → Operands (prefixesOf s) (byteOf w) 1 (modRegMem w / 8 % 8) a z → z ≤ 4 → sizeOf r ≡ z
       → instrOf r ≡ Transfers (Mov (eqb (w % 256 % 2) 1) a (Held (Register (modRegMem w / 8 % 8)))) → First s w r
   mov-from z a d o small size e =
       let l : w % 256 < 0x8a = omega (arith, d) in
-      let q : w % 256 % 2 ≡ _%_ (Prim.Native.Nat._-_ (w % 256) 0x88) 2 = low-bit 0x88 (w % 256) low refl in
       first (rw size (omega arith)) (high-code (w % 256) (omega arith) (omega arith))
-      (from-80 (prefixesOf s) (omega arith) (omega arith) (at-row 0x88 refl low l (with-place o _ (decodes-known (rw (e, size, q))))))
+      (from-80 (prefixesOf s) (omega arith) (omega arith) (at-row 0x88 refl low l (with-place o _ (decodes-known (rw (e, size))))))
 
   module _ (h : modRegMem w / 64 ≡ 3) where
     pub mov-rr-to : w / 2 % 2 ≡ 1 → r ≡ 516 + 4096 * (modRegMem w / 8 % 8) + 65536 * (modRegMem w % 8) + 268435456 * (w % 2) → First s w r
     mov-rr-to d e =
-        let f = rr-plain r 4 (modRegMem w / 8 % 8) (modRegMem w % 8) (w % 256 % 2) (lit≤ tt) (below-8 _) (below-8 _) (below-2 _) (rw (word-bit-2 w) at e) in
+        let f = rr-plain r 4 (modRegMem w / 8 % 8) (modRegMem w % 8) (w % 256 % 2) (lit≤ tt) (below-8 _) (below-8 _) (below-2 _) (rw (word-bit w) at e) in
         mov-to 2 _ d (in-register s w h) (lit≤ tt) (f .size) (is-4 f)
 
     pub mov-rr-from : (w / 2 % 2 ≡ 1 → ⊥) → r ≡ 516 + 4096 * (modRegMem w % 8) + 65536 * (modRegMem w / 8 % 8) + 268435456 * (w % 2) → First s w r
     mov-rr-from d e =
-        let f = rr-plain r 4 (modRegMem w % 8) (modRegMem w / 8 % 8) (w % 256 % 2) (lit≤ tt) (below-8 _) (below-8 _) (below-2 _) (rw (word-bit-2 w) at e) in
+        let f = rr-plain r 4 (modRegMem w % 8) (modRegMem w / 8 % 8) (w % 256 % 2) (lit≤ tt) (below-8 _) (below-8 _) (below-2 _) (rw (word-bit w) at e) in
         mov-from 2 _ d (in-register s w h) (lit≤ tt) (f .size) (is-4 f)
 
   module _ (p : ℕ) (h : modRegMem w / 64 ≡ 3 → ⊥) (a : Addresses s w p) where
     pub mov-rm : w / 2 % 2 ≡ 1 → r ≡ 5 + 65536 * (modRegMem w / 8 % 8) + 268435456 * (w % 2) + p → First s w r
     mov-rm d e =
-        let f = mem-plain s w r 5 (modRegMem w / 8 % 8) (w % 256 % 2) p a (lit≤ tt) (below-8 _) (below-2 _) (rw (word-bit-2 w) at e) in
+        let f = mem-plain s w r 5 (modRegMem w / 8 % 8) (w % 256 % 2) p a (lit≤ tt) (below-8 _) (below-2 _) (rw (word-bit w) at e) in
         mov-to _ _ d (in-memory s w p h a) (a .short) (f .size) (is-5 f)
 
     pub mov-mr : (w / 2 % 2 ≡ 1 → ⊥) → r ≡ 6 + 65536 * (modRegMem w / 8 % 8) + 268435456 * (w % 2) + p → First s w r
     mov-mr d e =
-        let f = mem-plain s w r 6 (modRegMem w / 8 % 8) (w % 256 % 2) p a (lit≤ tt) (below-8 _) (below-2 _) (rw (word-bit-2 w) at e) in
+        let f = mem-plain s w r 6 (modRegMem w / 8 % 8) (w % 256 % 2) p a (lit≤ tt) (below-8 _) (below-2 _) (rw (word-bit w) at e) in
         mov-from _ _ d (in-memory s w p h a) (a .short) (f .size) (is-6 f)
 
 -- ---- other codes
@@ -263,18 +258,18 @@ module _ (s w r : ℕ) where
   push-is h k e =
       let f = fields r 8 1 (w % 256 % 8) 0 0 0 0 0 0 (lit≤ tt) (lit≤ tt) (omega arith) (lit≤ tt) (lit≤ tt) (lit≤ tt) (lit≤ tt) (lit≤ tt) (omega arith) in
       first (rw (f .size) (lit≤ tt)) (mid-code (w % 256) (omega arith) (omega arith))
-      (from-40 (prefixesOf s) (omega arith) (omega arith) (at-row 0x50 refl h k (decodes-known (rw (is-8 f, f .size, low-bits 0x50 (w % 256) h k refl)))))
+      (from-40 (prefixesOf s) (omega arith) (omega arith) (at-row 0x50 refl h k (decodes-known (rw (is-8 f, f .size)))))
 
   pub pop-is : 0x58 ≤ w % 256 → w % 256 < 0x60 → r ≡ 265 + 4096 * (w % 8) → First s w r
   pop-is h k e =
       let f = fields r 9 1 (w % 256 % 8) 0 0 0 0 0 0 (lit≤ tt) (lit≤ tt) (omega arith) (lit≤ tt) (lit≤ tt) (lit≤ tt) (lit≤ tt) (lit≤ tt) (omega arith) in
       first (rw (f .size) (lit≤ tt)) (mid-code (w % 256) (omega arith) (omega arith))
-      (from-40 (prefixesOf s) (omega arith) (omega arith) (at-row 0x58 refl h k (decodes-known (rw (is-9 f, f .size, low-bits 0x58 (w % 256) h k refl)))))
+      (from-40 (prefixesOf s) (omega arith) (omega arith) (at-row 0x58 refl h k (decodes-known (rw (is-9 f, f .size)))))
 
   pub branch-is : (d : ℕ) → 0x70 ≤ w % 256 → w % 256 < 0x80 → d ≡ extend (w / 256 % 256) → d < 65536 → r ≡ 522 + 1048576 * (w % 16) + 4294967296 * d → First s w r
   branch-is d h k x l e =
       let f = fields r 10 2 0 0 (w % 16) 0 0 d 0 (lit≤ tt) (lit≤ tt) (lit≤ tt) (lit≤ tt) (omega arith) (lit≤ tt) (lit≤ tt) l (omega arith) in
-      let q : w % 16 ≡ Prim.Native.Nat._-_ (w % 256) 0x70 = omega arith in
+      let q : w % 16 ≡ w % 256 % 16 = omega arith in
       first (rw (f .size) (lit≤ tt)) (high-code (w % 256) (omega arith) (omega arith))
       (from-40 (prefixesOf s) (omega arith) k (at-row 0x70 refl h k (with-short _ (short-1 w d x) (rw (is-10 f, f .size, q)))))
 

@@ -17,8 +17,8 @@ use Rattle.sheet.specs.declared.Conditional.the-variants.{If}
 use Rattle.sheet.specs.Groups.{Transfers, Calculates, Stacks, Branches, Tests}
 use Rattle.sheet.specs.Encoding.{prefixOf}
 use Rattle.sheet.specs.FirstByte.{instruction, operationAt, firstBytes}
-use Rattle.answers.specs.declared.Decoded.the-variants.{Known}
-use Rattle.answers.specs.Answer.{Decodes, Names}
+use Rattle.code_answer.specs.declared.Decoded.the-variants.{Known}
+use Rattle.code_answer.specs.Answer.{Decodes, Names}
 use Rattle.quick_place.specs.Packed.{byteOf, kindOf, sizeOf, rmOf, regOf, opOf, condOf, wordOf, dispOf, immOf, addressOf, prefixesOf}
 
 -- by the kind: an operation on two registers, on a register and memory, on memory and a register; MOV of the same three, and of an immediate; PUSH, POP, branches

@@ -10,9 +10,9 @@ use borrow.Author.Tests.{le-leb, lt-leb}
 use Rattle.sheet.specs.declared.Bus.{Bus}
 use Rattle.sheet.specs.declared.State.{State}
 use Rattle.sheet.specs.World.{World, world, stateOf}
-use Rattle.tally.specs.Sums.{Free, Joins}
-use Rattle.tally.specs.Bounds.{Within}
-use Rattle.calls.specs.Calls.{checkNumber}
+use Rattle.mach_tally.specs.Sums.{Free, Joins}
+use Rattle.mach_tally.specs.Bounds.{Within}
+use Rattle.step_calls.specs.Calls.{checkNumber}
 use Rattle.engine.specs.Steps.{Advances}
 use Rattle.engine.specs.Runs.{Runs}
 use Rattle.engine.proofs.RunLaws.{Continues, continues-none, continues-more, runs-stop, runs-end}

@@ -3,7 +3,7 @@ use engine::Ran;
 use sheet::State;
 ghost use mathlib.Core.Path.{_≡_};
 ghost use Rattle.sheet.specs.World.{world, stateOf};
-ghost use Rattle.calls.specs.Calls.{checkNumber};
+ghost use Rattle.step_calls.specs.Calls.{checkNumber};
 ghost use Rattle.engine.specs.Runs.{Runs};
 ghost use Rattle.quick_reading.specs.Readings.{Remembers};
 ghost use Rattle.quick_stand.specs.Stand.{progressAt, marksAt, Lent};
@@ -68,13 +68,13 @@ fn go_on(s: State, ram: &mut [u8], rom: &[u8], tape: &[u8], log: &mut [u8], budg
 pub fn run(s: State, ram: &mut [u8], rom: &[u8], tape: &[u8], log: &mut [u8], budget: u16) -> Ran
     ensures { λ r. ⌜ Runs budget s (now (ram .entry)) (now (rom .entry)) (now (tape .entry)) (now (log .entry)) (r .number) (r .state) (now (ram .exit)) (now (log .exit)) (r .steps) (r .bus) ⌝ }
 {
-    let number = calls::check(s, ram, rom, tape, log);
+    let number = step_calls::check(s, ram, rom, tape, log);
     if number != 0 {
         return Ran {
             number,
             state: s,
             steps: 0,
-            bus: tally::none(),
+            bus: mach_tally::none(),
         };
     }
     go_on(s, ram, rom, tape, log, budget)

@@ -27,13 +27,13 @@ use Rattle.sheet.specs.Execute.{execute}
 use Rattle.sheet.specs.Step.{codeByte, movesIn, loadsSegment}
 use Rattle.sheet.specs.Contract.{OnMemory}
 use Rattle.sheet.proofs.Rules.{no-last}
-use Rattle.tally.specs.Bounds.{Within}
-use Rattle.tally.proofs.Bounds.{within-memory}
-use Rattle.answers.specs.declared.Decoded.the-variants.{Known}
-use Rattle.answers.specs.Answer.{Decodes}
-use Rattle.execute.specs.Performs.{Performs}
-use Rattle.stepper.specs.Proceeds.{begunAt, Proceeds}
-use Rattle.stepper.proofs.Laws.{finishes-untraced, proceeds-done}
+use Rattle.mach_tally.specs.Bounds.{Within}
+use Rattle.mach_tally.proofs.Bounds.{within-memory}
+use Rattle.code_answer.specs.declared.Decoded.the-variants.{Known}
+use Rattle.code_answer.specs.Answer.{Decodes}
+use Rattle.step_execute.specs.Performs.{Performs}
+use Rattle.step_one.specs.Proceeds.{begunAt, Proceeds}
+use Rattle.step_one.proofs.Laws.{finishes-untraced, proceeds-done}
 use Rattle.engine.specs.Steps.{Advances}
 use Rattle.engine.specs.declared.Advanced.{Advanced}
 use Rattle.engine.proofs.Laws.{advances-known}

@@ -8,8 +8,8 @@ use Rattle.sheet.specs.Psw.{BRK, flagOf}
 use Rattle.sheet.specs.Registers.{PS, PC, PSW}
 use Rattle.sheet.specs.FirstByte.{instruction}
 use Rattle.sheet.specs.Step.{codeByte}
-use Rattle.answers.specs.declared.Decoded.the-variants.{Known}
-use Rattle.answers.specs.Answer.{Decodes}
+use Rattle.code_answer.specs.declared.Decoded.the-variants.{Known}
+use Rattle.code_answer.specs.Answer.{Decodes}
 use Rattle.quick_place.specs.Packed.{sizeOf}
 use Rattle.quick_reading.specs.Readings.{instrOf}
 use Rattle.quick_stand.specs.Stand.{marksAt}

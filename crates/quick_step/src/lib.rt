@@ -1,10 +1,10 @@
 // One step of the quicker run: by a reading where there is one, else by the general path.
-use registers::PC;
-use registers::PS;
-use registers::PSW;
+use mach_registers::PC;
+use mach_registers::PS;
+use mach_registers::PSW;
 ghost use mathlib.Core.Bool.{false};
 ghost use Rattle.sheet.specs.World.{marksOf};
-ghost use Rattle.stepper.specs.Proceeds.{begunAt};
+ghost use Rattle.step_one.specs.Proceeds.{begunAt};
 ghost use Rattle.quick_reading.specs.Readings.{Remembers};
 ghost use Rattle.quick_stand.specs.Stand.{progressAt, Lent, Holds};
 ghost use Rattle.quick_step.specs.Ready.{Ready};
@@ -18,12 +18,12 @@ fn next(file: &[u16; 14], stand: &[usize; 4], memo: &mut [u64; 2048], ram: &[u8]
     if stand[3] % 2 == 1 {
         return 0;
     }
-    let traced = flags::brk(file[PSW]);
+    let traced = calc_flags::brk(file[PSW]);
     if traced {
         return 0;
     }
     let ps = file[PS];
-    let pc = word::word(file[PC]);
+    let pc = calc_word::word(file[PC]);
     let w = quick_window::window(ram, rom, ps, pc);
     quick_reading::recall(memo, pc, w)
 }
@@ -33,7 +33,7 @@ fn begin(stand: &mut [usize; 4])
     requires { ⌜ Lent (now stand) ⌝ }
     ensures { λ _. ⌜ Holds (now (stand .exit)) (marksOf false false) (begunAt (progressAt (now (stand .entry)))) ⌝ }
 {
-    let count = stepper::count_on(stand[2] as u32);
+    let count = step_one::count_on(stand[2] as u32);
     stand[2] = count as usize;
     stand[3] = 0;
 }

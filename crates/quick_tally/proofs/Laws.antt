@@ -5,9 +5,9 @@ use mathlib.Core.Bool.{Bool, true, false}
 use native.Mathlib.Omega.{arith}
 use Rattle.sheet.specs.declared.Bus.{Bus}
 use Rattle.sheet.specs.Memory.{busCycles}
-use Rattle.tally.specs.Sums.{Free, Costs, Joins}
-use Rattle.tally.specs.Bounds.{Within}
-use Rattle.tally.proofs.Laws.{costs, cycles-word, cycles-byte}
+use Rattle.mach_tally.specs.Sums.{Free, Costs, Joins}
+use Rattle.mach_tally.specs.Bounds.{Within}
+use Rattle.mach_tally.proofs.Laws.{costs, cycles-word, cycles-byte}
 use Rattle.quick_tally.specs.Packed.{busAt, Packs}
 
 pub packed : (n c d : ℕ) → c ≤ 4294967295 → n ≡ c + 4294967296 * d → busAt n ≡ record { cycles = c; dropped = d }

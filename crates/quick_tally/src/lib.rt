@@ -2,7 +2,7 @@
 use sheet::Bus;
 ghost use mathlib.Core.Path.{_≡_};
 ghost use Prim.Native.Nat.{_+_, _≤_};
-ghost use Rattle.tally.specs.Sums.{Free, Costs, Joins};
+ghost use Rattle.mach_tally.specs.Sums.{Free, Costs, Joins};
 ghost use Rattle.quick_tally.specs.Packed.{busAt, Packs};
 
 pub fn none() -> u64

@@ -9,9 +9,9 @@ use Rattle.sheet.specs.Reading.{known, scan, lengthOf}
 use Rattle.sheet.specs.FirstByte.{instruction}
 use Rattle.sheet.specs.Step.{codeAt, codeByte}
 use Rattle.sheet.proofs.ReadingLaws.{scan-rests}
-use Rattle.answers.specs.declared.Decoded.the-variants.{Known}
-use Rattle.answers.specs.Answer.{Decodes, answerOf}
-use Rattle.answers.proofs.DecodesLaws.{known-reads}
+use Rattle.code_answer.specs.declared.Decoded.the-variants.{Known}
+use Rattle.code_answer.specs.Answer.{Decodes, answerOf}
+use Rattle.code_answer.proofs.DecodesLaws.{known-reads}
 use Rattle.quick_place.specs.Packed.{byteOf}
 use borrow.Author.Tests.{lt-ltb, le-ltb, le-leb}
 use Rattle.sheet.specs.Memory.{physical, byteAt}

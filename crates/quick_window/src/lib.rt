@@ -33,7 +33,7 @@ fn eight(s: &[u8], a: usize) -> u64
 fn code(ram: &[u8], rom: &[u8], ps: u16, pc: u16, i: u16) -> u64
     ensures { λ r. ⌜ (r ≡ codeByte (now (ram .entry)) (now (rom .entry)) ps pc i) × (r ≤ 255) ⌝ }
 {
-    wide(memory::read_byte(ram, rom, ps, word::plus16(pc, i)))
+    wide(mach_memory::read_byte(ram, rom, ps, calc_word::plus16(pc, i)))
 }
 
 fn four_codes(ram: &[u8], rom: &[u8], ps: u16, pc: u16, i: u16) -> u64
@@ -58,7 +58,7 @@ fn eight_codes(ram: &[u8], rom: &[u8], ps: u16, pc: u16) -> u64
 pub fn window(ram: &[u8], rom: &[u8], ps: u16, pc: u16) -> u64
     ensures { λ r. ⌜ Spells (codeByte (now (ram .entry)) (now (rom .entry)) ps pc) 0 8 r ⌝ }
 {
-    let a = memory::address(ps, pc);
+    let a = mach_memory::address(ps, pc);
     if pc < 65529 {
         if a <= 1048568 {
             if a < ram.len() {

@@ -1,4 +1,4 @@
-use Rattle.memory.proofs.Laws.{stores}
+use Rattle.mach_memory.proofs.Laws.{stores}
 use borrow.Author.Needs.{needs}
 use Rattle.quick_memory.proofs.store.Statement.{statement}
 use Rattle.quick_memory.proofs.store.Tie as tie
