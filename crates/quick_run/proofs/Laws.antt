@@ -8,6 +8,8 @@ use lib.Dec.{leb}
 use lib.ListN.{getD, length, replicate}
 use borrow.Author.Tests.{le-leb, lt-leb}
 use Rattle.sheet.specs.declared.Bus.{Bus}
+use Rattle.sheet.specs.declared.Marks.{Marks}
+use Rattle.sheet.specs.declared.Progress.{Progress}
 use Rattle.sheet.specs.declared.State.{State}
 use Rattle.sheet.specs.World.{World, world, stateOf}
 use Rattle.mach_tally.specs.Sums.{Free, Joins}
@@ -32,6 +34,9 @@ zeros (suc n) (suc i) = zeros n i
 pub none-yet : (m : List ℕ) → m ≡ replicate 2048 0 → length m ≡ 2048 → Remembers m
 none-yet m e l = record { long = l; at = λ i h. rw e (general (zeros 2048 (2 * i + 1))) }
 
+pub state-is : (f p : List ℕ) (m : Marks) (q : Progress) (s : State) → m ≡ marksAt p → q ≡ progressAt p → s ≡ stateOf f m q → s ≡ stateOf f (marksAt p) (progressAt p)
+state-is f p m q s e h u = rw (← e, ← h) u
+
 -- ---- a turn's number
 
 cost-on : (x : ℕ) → 256 ≤ x → costOf x ≡ busAt (x - 256)
@@ -45,22 +50,21 @@ number-off x h = rw (lt-leb 256 x h)
 -- ---- the loop
 
 -- the run so far, with the state in its parts
-abbrev pub Goes : List ℕ → List ℕ → List ℕ → List ℕ → List ℕ → List ℕ → List ℕ → List ℕ → List ℕ → List ℕ → ℕ → ℕ → Type 0
-Goes f₀ p₀ ram₀ rom tape log₀ f p ram log k total =
-    Continues (world (stateOf f₀ (marksAt p₀) (progressAt p₀)) ram₀ rom tape log₀) (world (stateOf f (marksAt p) (progressAt p)) ram rom tape log) k (busAt total)
+pub record Goes (f₀ p₀ ram₀ rom tape log₀ f p ram log : List ℕ) (k total : ℕ) : Type 0 where
+  pub on : Continues (world (stateOf f₀ (marksAt p₀) (progressAt p₀)) ram₀ rom tape log₀) (world (stateOf f (marksAt p) (progressAt p)) ram rom tape log) k (busAt total)
 
 pub goes-none : (s : State) (p ram rom tape log : List ℕ) (total : ℕ) → length (s .file) ≡ 14 → checkNumber (world s ram rom tape log) ≡ 0 → Holds p (s .marks) (s .progress) → Free (busAt total)
     → Goes (s .file) p ram rom tape log (s .file) p ram log 0 total
-goes-none s p ram rom tape log total l e h k = rw (h .marks, h .progress) (continues-none s ram rom tape log (busAt total) l e k)
+goes-none s p ram rom tape log total l e h k = record { on = rw (h .marks, h .progress) (continues-none s ram rom tape log (busAt total) l e k) }
 
 module _ {f₀ p₀ ram₀ rom tape log₀ f p ram log f′ p′ ram′ log′ : List ℕ} {k total x : ℕ} (g : Goes f₀ p₀ ram₀ rom tape log₀ f p ram log k total) (t : Turns f p ram rom tape log x f′ p′ ram′ log′) where
   pub goes-more : {sum : ℕ} → 256 ≤ x → Joins (busAt total) (busAt (x - 256)) (busAt sum) → Goes f₀ p₀ ram₀ rom tape log₀ f′ p′ ram′ log′ (k + 1) sum
-  goes-more h j = continues-more g (le-leb 256 x h) (t .does) (rw (cost-on x h) j)
+  goes-more h j = record { on = continues-more (g .on) (le-leb 256 x h) (t .does) (rw (cost-on x h) j) }
 
   pub goes-fits : 256 ≤ x → k < 65535 → busAt total .cycles + busAt (x - 256) .cycles + (busAt total .dropped + busAt (x - 256) .dropped) ≤ 4294967295
   goes-fits h l =
-      let a = g .most .cycles in
-      let b = g .most .dropped in
+      let a = g .on .most .cycles in
+      let b = g .on .most .dropped in
       let n : Within (busAt (x - 256)) 1028 = rw (cost-on x h) at (t .does .most) in
       let c = n .cycles in
       let d = n .dropped in
@@ -72,8 +76,11 @@ module _ {f₀ p₀ ram₀ rom tape log₀ f p ram log f′ p′ ram′ log′ :
       let same = t .does .same (lt-leb 256 x c) .0 in
       let file-same : f′ ≡ f = ap (λ (z : State). z .file) same in
       let z : y ≡ stateOf f′ (marksAt p) (progressAt p) = e ∙ (same ∙ rw file-same) in
-      rw (q, a, h .marks, h .progress, number-off x c) at (runs-stop {budget = budget} g b (lt-leb 256 x c) (t .does) z)
+      let o : Continues (world s ram₀ rom tape log₀) (world (stateOf f (marksAt p) (progressAt p)) ram rom tape log) k (busAt total) = rw (a, h .marks, h .progress) at (g .on) in
+      rw (q, ← number-off x c) (runs-stop {budget = budget} o b (lt-leb 256 x c) (t .does) z)
 
 pub goes-end : {s y : State} {f₀ p₀ ram₀ rom tape log₀ f p ram log : List ℕ} {k total budget : ℕ} {n : Bus} → Goes f₀ p₀ ram₀ rom tape log₀ f p ram log k total → f₀ ≡ s .file → Holds p₀ (s .marks) (s .progress)
     → k ≤ budget → budget ≤ k → y ≡ stateOf f (marksAt p) (progressAt p) → n ≡ busAt total → Runs budget s ram₀ rom tape log₀ 0 y ram log k n
-goes-end g a h b c e q = rw (q, a, h .marks, h .progress) at (runs-end g b c e)
+goes-end {s = s} {f = f} {p = p} {ram = ram} {log = log} {k = k} {total = total} g a h b c e q =
+    let o : Continues (world s _ _ _ _) (world (stateOf f (marksAt p) (progressAt p)) ram _ _ log) k (busAt total) = rw (a, h .marks, h .progress) at (g .on) in
+    rw q (runs-end o b c e)
