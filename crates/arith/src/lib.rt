@@ -15,15 +15,15 @@ use word::sign;
 use word::wrap;
 
 // A value with the flags that do not follow from it.
-struct Outcome {
-    value: u16,
-    ac: bool,
-    cy: bool,
-    v: bool,
+pub struct Outcome {
+    pub value: u16,
+    pub ac: bool,
+    pub cy: bool,
+    pub v: bool,
 }
 
 // a + b + c.
-fn plus(word: bool, a: u16, b: u16, c: bool) -> Outcome
+pub fn plus(word: bool, a: u16, b: u16, c: bool) -> Outcome
     ensures { λ r. ⌜ sum word a b c ≡ resulting word (r .value) (becomes (r .ac)) (becomes (r .cy)) (becomes (r .v)) ⌝ }
 {
     let d = digit(c);
@@ -39,7 +39,7 @@ fn plus(word: bool, a: u16, b: u16, c: bool) -> Outcome
 }
 
 // a - b - c.
-fn minus(word: bool, a: u16, b: u16, c: bool) -> Outcome
+pub fn minus(word: bool, a: u16, b: u16, c: bool) -> Outcome
     ensures { λ r. ⌜ difference word a b c ≡ resulting word (r .value) (becomes (r .ac)) (becomes (r .cy)) (becomes (r .v)) ⌝ }
 {
     let d = digit(c);
