@@ -1,8 +1,10 @@
-//! An interpreter of the V30's native instructions, written apart from the proved engine to judge it.
+//! An interpreter of the V30's instructions, native and of the 8080 mode, written apart from the proved engine to judge it.
 
 #![forbid(unsafe_code)]
 
+pub mod cards;
 mod execute;
+pub mod gap_rule;
 pub mod intel_hex;
 pub mod judge;
 pub mod listing;

@@ -1,9 +1,10 @@
 //! The public calls: step, run, interrupt and reset; and what every instruction uses.
 
+use crate::cards::{Cards, CARDS};
 use crate::memory::Memory;
 use crate::portlog::Record;
 use crate::refusal::Refusal;
-use crate::state::{State, BRK, COUNT_LIMIT, IE, PS, SP, SS};
+use crate::state::{State, BRK, IE, MODE, PS, SP, SS};
 use crate::width::Width;
 use std::ops::AddAssign;
 
@@ -38,6 +39,8 @@ pub(crate) enum GoOnWhile {
 
 pub struct Machine<'a> {
     pub state: State,
+    /// As the programs are built, unless someone says otherwise.
+    pub cards: Cards,
     pub(crate) memory: Memory<'a>,
     tape: &'a [u8],
     log: &'a mut [u8],
@@ -97,6 +100,7 @@ impl<'a> Machine<'a> {
         let now = Now::at(state.pc);
         Machine {
             state,
+            cards: CARDS,
             memory: Memory::new(ram, rom),
             tape,
             log,
@@ -157,7 +161,6 @@ impl<'a> Machine<'a> {
         let good = state.fixed_bits_are_right()
             && state.tape_place as usize <= self.tape.len()
             && state.log_place as usize <= self.log.len()
-            && state.count <= COUNT_LIMIT
             && !(state.after_segment_load && state.halted);
         if good {
             Ok(())
@@ -172,7 +175,11 @@ impl<'a> Machine<'a> {
         }
         self.now = Now::at(self.state.pc);
         let single_step = self.state.flag(BRK);
-        self.execute()?;
+        if self.state.is_native() {
+            self.execute()?;
+        } else {
+            self.execute_8080()?;
+        }
         if single_step && !self.now.trapped && !self.now.loads_segment {
             self.trap(SINGLE_STEP_VECTOR);
             self.state.halted = false;
@@ -182,23 +189,32 @@ impl<'a> Machine<'a> {
         self.state.count = if self.now.recorded {
             0
         } else {
-            COUNT_LIMIT.min(self.state.count + 1)
+            self.state.count.saturating_add(1)
         };
         Ok(self.now.tally)
     }
 
+    /// Enters native mode, from whichever mode the saved PSW has.
     pub(crate) fn trap(&mut self, vector: u8) {
+        self.go_to_vector(vector, |state| {
+            state.set_flag(IE, false);
+            state.set_flag(BRK, false);
+            state.set_flag(MODE, true);
+        });
+        self.now.trapped = true;
+    }
+
+    /// Saves PSW, PS and PC on the native stack and goes where the vector says; PSW changes once it is saved.
+    pub(crate) fn go_to_vector(&mut self, vector: u8, change_psw: fn(&mut State)) {
         let entry = u16::from(vector) * 4;
         let pc: u16 = self.load(0, entry);
         let ps: u16 = self.load(0, entry + 2);
         self.push(self.state.psw);
-        self.state.set_flag(IE, false);
-        self.state.set_flag(BRK, false);
+        change_psw(&mut self.state);
         self.push(self.state.segment[PS]);
         self.state.segment[PS] = ps;
         self.push(self.now.next_pc);
         self.now.next_pc = pc;
-        self.now.trapped = true;
     }
 
     pub(crate) fn fetch_byte(&mut self) -> u8 {
@@ -266,7 +282,7 @@ impl<'a> Machine<'a> {
     fn record<W: Width>(&mut self, port: u16, output: bool, value: u32) -> Outcome {
         let kind = u32::from(W::BYTES == 2) * 2 + u32::from(output);
         let record = Record {
-            gap: COUNT_LIMIT.min(self.state.count + 1),
+            gap: self.state.count.saturating_add(1),
             key: u32::from(port) * 4 + kind,
             value,
         };

@@ -26,13 +26,12 @@ pub const BRK: u16 = 1 << 8;
 pub const IE: u16 = 1 << 9;
 pub const DIR: u16 = 1 << 10;
 pub const V: u16 = 1 << 11;
+/// 1 in native mode, 0 in the 8080 mode.
+pub const MODE: u16 = 1 << 15;
 
-/// Bits 1 and 12 to 15 are always one, bits 3 and 5 always zero.
-const FIXED_ONES: u16 = 0xF002;
+/// Bits 1 and 12 to 14 are always one, bits 3 and 5 always zero.
+const FIXED_ONES: u16 = 0x7002;
 const FIXED_ZEROS: u16 = 0x0028;
-
-/// The largest gap a record holds; the count of steps stops here too.
-pub const COUNT_LIMIT: u32 = 2_097_151;
 
 #[derive(Clone, Debug, PartialEq, Eq)]
 pub struct State {
@@ -42,12 +41,14 @@ pub struct State {
     pub segment: [u16; 4],
     pub pc: u16,
     pub psw: u16,
+    /// A popped PSW writes the mode: so from BRKEM to RETEM.
+    pub may_write_mode: bool,
     pub halted: bool,
     /// The last finished step was a MOV or POP into a segment register.
     pub after_segment_load: bool,
     pub tape_place: u32,
     pub log_place: u32,
-    /// Finished steps since the last record or reset.
+    /// Finished steps since the last record or reset; it stops at the new rule's ceiling, the largest u32, so none is too large.
     pub count: u32,
 }
 
@@ -59,7 +60,8 @@ impl State {
             general: [0; 8],
             segment,
             pc: 0,
-            psw: FIXED_ONES,
+            psw: MODE | FIXED_ONES,
+            may_write_mode: false,
             halted: false,
             after_segment_load: false,
             tape_place: 0,
@@ -68,13 +70,20 @@ impl State {
         }
     }
 
+    /// The mode is fixed, too, where it may not be written.
     pub fn fixed_bits_are_right(&self) -> bool {
-        self.psw & (FIXED_ONES | FIXED_ZEROS) == FIXED_ONES
+        let fixed = self.psw & (FIXED_ONES | FIXED_ZEROS) == FIXED_ONES;
+        fixed && (self.is_native() || self.may_write_mode)
     }
 
-    /// Takes a popped PSW; its fixed bits do not depend on the stack.
+    pub fn is_native(&self) -> bool {
+        self.flag(MODE)
+    }
+
+    /// Takes a popped PSW; its fixed bits do not depend on the stack, nor does a mode that may not be written.
     pub fn load_psw(&mut self, word: u16) {
-        self.psw = word & !FIXED_ZEROS | FIXED_ONES;
+        let mode = if self.may_write_mode { word } else { self.psw } & MODE;
+        self.psw = word & !(FIXED_ZEROS | MODE) | FIXED_ONES | mode;
     }
 
     pub fn flag(&self, flag: u16) -> bool {

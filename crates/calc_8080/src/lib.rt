@@ -2,7 +2,7 @@
 ghost use mathlib.Core.Path.{_≡_};
 ghost use mathlib.Core.Bool.{true, false};
 ghost use Rattle.sheet.specs.Psw.{AC, CY, flagOf, blank};
-ghost use Rattle.sheet.specs.Arithmetic.{added, carry, halfBorrow};
+ghost use Rattle.sheet.specs.Arithmetic.{added, carry};
 ghost use Rattle.sheet.specs.Shift.{turn, onePlace, rotated};
 ghost use Rattle.sheet.specs.CardArithmetic.{cardSum, cardDifference, masked, bitwise, increased, decreased, daaResult};
 ghost use Rattle.sheet.specs.Contract.{flagged};
@@ -12,30 +12,21 @@ use sheet::Operation;
 use sheet::Shift;
 use sheet::Turn;
 use sheet::Way;
-use word::digit;
-
-// What a - b - c borrows from bit 4.
-fn half_borrow(a: u16, b: u16, c: bool) -> bool
-    ensures { λ r. ⌜ r ≡ halfBorrow a b c ⌝ }
-{
-    a % 16 < b % 16 + digit(c)
-}
 
 // ADD and ADC.
 fn add(a: u16, b: u16, c: bool, psw: u16) -> Flagged
     ensures { λ r. ⌜ r ≡ flagged (cardSum a b c) psw ⌝ }
 {
-    let t = arith::plus(false, a, b, c);
-    psw::result(false, t.value, t.ac, t.cy, flags::v(psw), psw)
+    let d = calc_decimal::plain(Way::Addition, a, b, c);
+    calc_psw::result(false, d.value, d.ac, d.cy, calc_flags::v(psw), psw)
 }
 
 // SUB, SBB and CMP.
 fn subtract(a: u16, b: u16, c: bool, psw: u16) -> Flagged
     ensures { λ r. ⌜ r ≡ flagged (cardDifference a b c) psw ⌝ }
 {
-    let t = arith::minus(false, a, b, c);
-    let half = half_borrow(a, b, c);
-    psw::result(false, t.value, !half, t.cy, flags::v(psw), psw)
+    let d = calc_decimal::plain(Way::Subtraction, a, b, c);
+    calc_psw::result(false, d.value, !d.ac, d.cy, calc_flags::v(psw), psw)
 }
 
 // ANA.
@@ -43,14 +34,14 @@ fn masked(a: u16, b: u16, psw: u16) -> Flagged
     ensures { λ r. ⌜ r ≡ flagged (masked a b) psw ⌝ }
 {
     let half = (a / 8 % 2 == 1) | (b / 8 % 2 == 1);
-    psw::result(false, a & b, half, false, flags::v(psw), psw)
+    calc_psw::result(false, a & b, half, false, calc_flags::v(psw), psw)
 }
 
 // XRA and ORA, of their bitwise result x.
 fn bitwise(x: u16, psw: u16) -> Flagged
     ensures { λ r. ⌜ r ≡ flagged (bitwise x) psw ⌝ }
 {
-    psw::result(false, x, false, false, flags::v(psw), psw)
+    calc_psw::result(false, x, false, false, calc_flags::v(psw), psw)
 }
 
 // One of the eight operations with AL.
@@ -60,8 +51,8 @@ pub fn operate(op: Operation, a: u16, b: u16, psw: u16) -> Flagged
     match op {
         Operation::Add => add(a, b, false, psw),
         Operation::Or => bitwise(a | b, psw),
-        Operation::Addc => add(a, b, flags::cy(psw), psw),
-        Operation::Subc => subtract(a, b, flags::cy(psw), psw),
+        Operation::Addc => add(a, b, calc_flags::cy(psw), psw),
+        Operation::Subc => subtract(a, b, calc_flags::cy(psw), psw),
         Operation::And => masked(a, b, psw),
         Operation::Sub => subtract(a, b, false, psw),
         Operation::Xor => bitwise(a ^ b, psw),
@@ -73,34 +64,48 @@ pub fn operate(op: Operation, a: u16, b: u16, psw: u16) -> Flagged
 pub fn increased(a: u16, psw: u16) -> Flagged
     ensures { λ r. ⌜ r ≡ flagged (increased a) psw ⌝ }
 {
-    let t = arith::plus(false, a, 1, false);
-    psw::result(false, t.value, t.ac, flags::cy(psw), flags::v(psw), psw)
+    let d = calc_decimal::plain(Way::Addition, a, 1, false);
+    calc_psw::result(
+        false,
+        d.value,
+        d.ac,
+        calc_flags::cy(psw),
+        calc_flags::v(psw),
+        psw,
+    )
 }
 
 // DCR keeps CY.
 pub fn decreased(a: u16, psw: u16) -> Flagged
     ensures { λ r. ⌜ r ≡ flagged (decreased a) psw ⌝ }
 {
-    let t = arith::minus(false, a, 1, false);
-    let half = half_borrow(a, 1, false);
-    psw::result(false, t.value, !half, flags::cy(psw), flags::v(psw), psw)
+    let d = calc_decimal::plain(Way::Subtraction, a, 1, false);
+    calc_psw::result(
+        false,
+        d.value,
+        !d.ac,
+        calc_flags::cy(psw),
+        calc_flags::v(psw),
+        psw,
+    )
 }
 
 pub fn daa(al: u16, psw: u16) -> Flagged
     ensures { λ r. ⌜ r ≡ flagged (daaResult al (flagOf psw AC) (flagOf psw CY)) psw ⌝ }
 {
-    let d = decimal::adjusted(Way::Addition, al, flags::ac(psw), flags::cy(psw));
-    psw::result(false, d.value, 9 < al % 16, d.cy, flags::v(psw), psw)
+    let d = calc_decimal::adjusted(Way::Addition, al, calc_flags::ac(psw), calc_flags::cy(psw));
+    calc_psw::result(false, d.value, 9 < al % 16, d.cy, calc_flags::v(psw), psw)
 }
 
 // RLC, RRC, RAL, RAR of x change CY alone.
 pub fn rotate(kind: Shift, x: u16, cy: bool, psw: u16) -> Flagged
     ensures { λ r. ⌜ r ≡ flagged (rotated (onePlace kind false (turn x cy)) blank) psw ⌝ }
 {
-    let t = shift::one_place(kind, false, Turn { value: x, cy });
+    let s = calc_shift::shift_one(kind, false, x, cy, psw);
+    let c = calc_flags::cy(s.psw);
     Flagged {
-        value: t.value,
-        psw: psw::with_cy(t.cy, psw),
+        value: s.value,
+        psw: calc_psw::with_cy(c, psw),
     }
 }
 

@@ -22,6 +22,6 @@ fn card_of(ram: &[u8], rom: &[u8], ps: u16, pc: u16, b: u8) -> CardDecoded
 pub fn decode_card(ram: &[u8], rom: &[u8], ps: u16, pc: u16) -> CardDecoded
     ensures { λ r. ⌜ CardDecodes card (codeByte (now (ram .entry)) (now (rom .entry)) ps pc) 0 r ⌝ }
 {
-    let b = fetch::code_byte(ram, rom, ps, pc, 0);
+    let b = code_bytes::code_byte(ram, rom, ps, pc, 0);
     card_of(ram, rom, ps, pc, b)
 }

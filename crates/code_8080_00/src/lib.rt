@@ -33,7 +33,7 @@ fn lxi_or_dad(ram: &[u8], rom: &[u8], ps: u16, pc: u16, d: u8) -> CardDecoded
     if dad {
         return code_8080_answer::calculates(CardArithmetic::Dad { pair: pair }, 1);
     }
-    let v = fetch::code_word(ram, rom, ps, pc, 1);
+    let v = code_bytes::code_word(ram, rom, ps, pc, 1);
     code_8080_answer::transfers(
         Transfer::Mov {
             word: true,
@@ -67,7 +67,7 @@ fn load_or_store(ram: &[u8], rom: &[u8], ps: u16, pc: u16, d: u8) -> CardDecoded
     }
     let there = Address::Direct {
         seg: 3,
-        offset: fetch::code_word(ram, rom, ps, pc, 1),
+        offset: code_bytes::code_word(ram, rom, ps, pc, 1),
     };
     match d {
         4 => code_8080_answer::transfers(
@@ -120,7 +120,7 @@ fn mvi(ram: &[u8], rom: &[u8], ps: u16, pc: u16, d: u8) -> CardDecoded
     ensures { λ r. ⌜ CardDecodes (cards00 d 6) (codeByte (now (ram .entry)) (now (rom .entry)) ps pc) 1 r ⌝ }
 {
     let to = code_8080_answer::operand_at(d);
-    let v = fetch::code_byte(ram, rom, ps, pc, 1);
+    let v = code_bytes::code_byte(ram, rom, ps, pc, 1);
     code_8080_answer::transfers(
         Transfer::Mov {
             word: false,

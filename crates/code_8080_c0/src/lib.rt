@@ -34,7 +34,7 @@ fn jump_if(ram: &[u8], rom: &[u8], ps: u16, pc: u16, d: u8) -> CardDecoded
     ensures { λ r. ⌜ CardDecodes (cards11 d 2) (codeByte (now (ram .entry)) (now (rom .entry)) ps pc) 1 r ⌝ }
 {
     let condition = code_8080_answer::condition_at(d);
-    let to = fetch::code_word(ram, rom, ps, pc, 1);
+    let to = code_bytes::code_word(ram, rom, ps, pc, 1);
     code_8080_answer::branches(
         CardBranch::JumpIf {
             condition: condition,
@@ -49,7 +49,7 @@ fn call_if(ram: &[u8], rom: &[u8], ps: u16, pc: u16, d: u8) -> CardDecoded
     ensures { λ r. ⌜ CardDecodes (cards11 d 4) (codeByte (now (ram .entry)) (now (rom .entry)) ps pc) 1 r ⌝ }
 {
     let condition = code_8080_answer::condition_at(d);
-    let to = fetch::code_word(ram, rom, ps, pc, 1);
+    let to = code_bytes::code_word(ram, rom, ps, pc, 1);
     code_8080_answer::branches(
         CardBranch::CallIf {
             condition: condition,
@@ -126,7 +126,7 @@ fn jump_or_port(ram: &[u8], rom: &[u8], ps: u16, pc: u16, d: u8) -> CardDecoded
     match d {
         0 => code_8080_answer::branches(
             CardBranch::Jmp {
-                to: fetch::code_word(ram, rom, ps, pc, 1),
+                to: code_bytes::code_word(ram, rom, ps, pc, 1),
             },
             3,
         ),
@@ -134,14 +134,14 @@ fn jump_or_port(ram: &[u8], rom: &[u8], ps: u16, pc: u16, d: u8) -> CardDecoded
         2 => code_8080_answer::ports(
             Io::Out {
                 word: false,
-                port: Port::Numbered(fetch::code_byte(ram, rom, ps, pc, 1)),
+                port: Port::Numbered(code_bytes::code_byte(ram, rom, ps, pc, 1)),
             },
             2,
         ),
         _ => code_8080_answer::ports(
             Io::In {
                 word: false,
-                port: Port::Numbered(fetch::code_byte(ram, rom, ps, pc, 1)),
+                port: Port::Numbered(code_bytes::code_byte(ram, rom, ps, pc, 1)),
             },
             2,
         ),
@@ -152,10 +152,10 @@ fn jump_or_port(ram: &[u8], rom: &[u8], ps: u16, pc: u16, d: u8) -> CardDecoded
 fn after_ed(ram: &[u8], rom: &[u8], ps: u16, pc: u16) -> CardDecoded
     ensures { λ r. ⌜ CardDecodes (cards11 5 5) (codeByte (now (ram .entry)) (now (rom .entry)) ps pc) 1 r ⌝ }
 {
-    let b = fetch::code_byte(ram, rom, ps, pc, 1);
+    let b = code_bytes::code_byte(ram, rom, ps, pc, 1);
     let calln = b == 0xed;
     if calln {
-        let n = fetch::code_byte(ram, rom, ps, pc, 2);
+        let n = code_bytes::code_byte(ram, rom, ps, pc, 2);
         return code_8080_answer::modes(CardMode::Calln { vector: n }, 3);
     }
     let retem = b == 0xfd;
@@ -189,7 +189,7 @@ fn push_or_call(ram: &[u8], rom: &[u8], ps: u16, pc: u16, d: u8) -> CardDecoded
     match d {
         1 => code_8080_answer::branches(
             CardBranch::Call {
-                to: fetch::code_word(ram, rom, ps, pc, 1),
+                to: code_bytes::code_word(ram, rom, ps, pc, 1),
             },
             3,
         ),
@@ -204,7 +204,7 @@ fn immediate(ram: &[u8], rom: &[u8], ps: u16, pc: u16, d: u8) -> CardDecoded
     ensures { λ r. ⌜ CardDecodes (cards11 d 6) (codeByte (now (ram .entry)) (now (rom .entry)) ps pc) 1 r ⌝ }
 {
     let op = code_8080_answer::operation_at(d);
-    let v = fetch::code_byte(ram, rom, ps, pc, 1);
+    let v = code_bytes::code_byte(ram, rom, ps, pc, 1);
     code_8080_answer::calculates(
         CardArithmetic::Two {
             op: op,

@@ -5,19 +5,19 @@
 mod report;
 mod watch;
 
-use files::Loaded;
-use files::load;
-use files::say;
+use console_files::Loaded;
+use console_files::load;
+use console_files::say;
+use console_schedule::Fault;
+use console_turns::Plan;
+use console_turns::Session;
 use io::print_decimal;
 use libc::STDERR_FILENO;
-use schedule::Fault;
-use turns::Plan;
-use turns::Session;
 use watch::Watch;
 ghost use Rattle.io.specs.Counts.{Counts};
 ghost use Rattle.sheet.specs.Step.{reset};
-ghost use Rattle.turns.specs.Stand.{begun};
-ghost use Rattle.session.specs.Turns.{Plays};
+ghost use Rattle.console_turns.specs.Stand.{begun};
+ghost use Rattle.console_session.specs.Turns.{Plays};
 
 const STEPS: u64 = 10000000;
 
@@ -57,10 +57,10 @@ fn go_on(
 ) -> Session
     ensures { λ r. ⌜ Plays 1 (now (schedule .entry)) plan s (now (ram .entry)) (now (rom .entry)) (now (tape .entry)) (now (log .entry)) r (now (ram .exit)) (now (log .exit)) ⌝ }
 {
-    let mut line = trace::blank();
+    let mut line = console_trace::blank();
     let end = watch::put_words(&mut line, s, ram, rom, w);
     let to = watch::target(s, ram, rom, w);
-    let t = session::play(s, ram, rom, tape, log, schedule, plan, 1);
+    let t = console_session::play(s, ram, rom, tape, log, schedule, plan, 1);
     watch::note(line, end, to, s, t, log, schedule, w, keys, counts);
     t
 }
@@ -79,15 +79,15 @@ fn play(
 ) -> Session
     ensures { λ r. ⌜ Plays 18446744073709551615 (now (schedule .entry)) plan (begun reset) (now (ram .entry)) (now (rom .entry)) (now (tape .entry)) (now (log .entry)) r (now (ram .exit)) (now (log .exit)) ⌝ }
 {
-    let mut s = turns::begin(calls::reset());
-    let mut clock = files::start();
+    let mut s = console_turns::begin(step_calls::reset());
+    let mut clock = console_files::start();
     let mut pieces = u64::MAX;
     while pieces > 0 {
         if s.over {
             return s;
         }
         s = go_on(s, ram, rom, tape, log, schedule, plan, w, keys, counts);
-        clock = files::progress(clock, s.steps);
+        clock = console_files::progress(clock, s.steps);
         pieces = pieces - 1;
     }
     s
@@ -95,10 +95,10 @@ fn play(
 
 // Plays, writes the files and then the report.
 fn conclude(ram: &mut [u8], rom: &[u8], tape: &[u8], schedule: &[u64], plan: Plan, w: Watch) {
-    let log_file = files::open(4);
-    let ram_file = files::open(9);
-    let seen_file = files::open(10);
-    let report = files::open(13);
+    let log_file = console_files::open(4);
+    let ram_file = console_files::open(9);
+    let seen_file = console_files::open(10);
+    let report = console_files::open(13);
     if !(log_file.ok & (ram_file.ok & (seen_file.ok & report.ok))) {
         return;
     }
@@ -117,11 +117,11 @@ fn conclude(ram: &mut [u8], rom: &[u8], tape: &[u8], schedule: &[u64], plan: Pla
         &mut counts,
     );
     let state = s.state;
-    if files::keep(log_file, b"the log", &log, state.progress.log)
-        && files::keep(ram_file, b"RAM", ram, ram.len())
+    if console_files::keep(log_file, b"the log", &log, state.progress.log)
+        && console_files::keep(ram_file, b"RAM", ram, ram.len())
         && watch::keep_counts(seen_file, &keys, &counts)
         && !report::print_report(
-            files::descriptor(report),
+            console_files::descriptor(report),
             s,
             plan,
             ram,
@@ -136,40 +136,40 @@ fn conclude(ram: &mut [u8], rom: &[u8], tape: &[u8], schedule: &[u64], plan: Pla
 
 // The number that an argument is, where it is given.
 fn number_or(index: usize, other: u64) -> u64 {
-    if files::is_left_out(index) {
+    if console_files::is_left_out(index) {
         return other;
     }
-    files::number(index)
+    console_files::number(index)
 }
 
 // The plan of a session by its arguments.
 fn planned(limit: u64) -> Plan {
     let until = number_or(7, NOWHERE as u64);
-    let traced = !files::is_left_out(11);
-    let counted = !files::is_left_out(10);
+    let traced = !console_files::is_left_out(11);
+    let counted = !console_files::is_left_out(10);
     Plan {
         limit,
         single: (until < NOWHERE as u64) | (traced | counted),
         until: until as usize,
-        keeps: !files::is_left_out(4),
+        keeps: !console_files::is_left_out(4),
     }
 }
 
 fn watched() -> Watch {
     Watch {
-        counts: !files::is_left_out(10),
-        from: number_or(11, schedule::NONE),
-        to: number_or(12, schedule::NONE),
-        drops: !files::is_left_out(14),
+        counts: !console_files::is_left_out(10),
+        from: number_or(11, console_schedule::NONE),
+        to: number_or(12, console_schedule::NONE),
+        drops: !console_files::is_left_out(14),
     }
 }
 
 // The step limit, and what RAM holds at first.
 fn with_ram(ram: &mut [u8], rom: &[u8], tape: &[u8], schedule: &[u64]) {
     let limit = number_or(6, STEPS);
-    if schedule::MOST < limit {
+    if console_schedule::MOST < limit {
         say(b"v30: --steps takes a number from 0 to ");
-        print_decimal(STDERR_FILENO, schedule::MOST);
+        print_decimal(STDERR_FILENO, console_schedule::MOST);
         say(b"\n");
         return;
     }
@@ -182,10 +182,10 @@ fn with_ram(ram: &mut [u8], rom: &[u8], tape: &[u8], schedule: &[u64]) {
 // How much RAM there is: what the ROM leaves of the address space, or less. If it cannot be had, says so and answers `NONE`.
 fn ram_size(rom: usize) -> u64 {
     let most = if rom < 1048576 { 1048576 - rom } else { 0 };
-    let size = if files::is_left_out(5) {
+    let size = if console_files::is_left_out(5) {
         most as u64
     } else {
-        files::number(5)
+        console_files::number(5)
     };
     if size <= most as u64 {
         return size;
@@ -193,7 +193,7 @@ fn ram_size(rom: usize) -> u64 {
     say(b"v30: --ram takes a number from 0 to ");
     print_decimal(STDERR_FILENO, most as u64);
     say(b", what the ROM leaves of 1048576\n");
-    schedule::NONE
+    console_schedule::NONE
 }
 
 fn with_schedule(rom: &[u8], tape: &[u8], schedule: &[u64]) {
@@ -202,7 +202,7 @@ fn with_schedule(rom: &[u8], tape: &[u8], schedule: &[u64]) {
         return;
     }
     let mut ram = address_space();
-    let n = files::within(size as usize, &ram);
+    let n = console_files::within(size as usize, &ram);
     with_ram(&mut ram[..n], rom, tape, schedule);
 }
 
@@ -219,15 +219,15 @@ fn say_fault(fault: Fault) {
 fn plan(text: &[u8], calls: &mut [u64]) -> Loaded
     ensures { λ r. ⌜ Counts (r .len) (now (calls .exit)) ⌝ }
 {
-    let s = schedule::read(text, calls);
+    let s = console_schedule::read(text, calls);
     let fault = s.fault;
-    let ok = schedule::is_sound(fault);
+    let ok = console_schedule::is_sound(fault);
     if !ok {
         say(b"v30: --interrupts: line ");
         print_decimal(STDERR_FILENO, s.lines as u64);
         say_fault(fault);
     }
-    let len = files::within_calls(s.calls, calls);
+    let len = console_files::within_calls(s.calls, calls);
     Loaded { ok, len }
 }
 

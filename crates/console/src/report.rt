@@ -1,8 +1,8 @@
 // What the console prints as it ends.
+use console_turns::Plan;
+use console_turns::Session;
 use io::print_decimal;
 use io::write_all;
-use turns::Plan;
-use turns::Session;
 
 // Why a session stopped, in words.
 fn print_words(fd: i32, number: u8) -> bool {
@@ -133,7 +133,7 @@ pub fn print_report(
     print_sums(fd, s, tape)
         & (print_calls(fd, s, calls)
             & (print_registers(fd, file)
-                & (trace::write_stand(fd, state, ram, rom)
+                & (console_trace::write_stand(fd, state, ram, rom)
                     & (print_number(fd, b"stopped with ", s.number as u64, b": ")
                         & print_why(fd, s, plan)))))
 }

@@ -1,12 +1,12 @@
 // What is seen of a session that goes by single steps: the lines of its trace, and how often the instruction at each address ran.
-use files::Output;
-use registers::PC;
-use registers::PS;
+use console_files::Output;
+use console_trace::Traffic;
+use console_trace::target::STACK;
+use console_turns::Session;
+use mach_registers::PC;
+use mach_registers::PS;
 use std::num::wrapping_add_u64;
 use std::num::wrapping_sub_u64;
-use trace::Traffic;
-use trace::target::STACK;
-use turns::Session;
 
 // Whether addresses are counted, the first and the last step that are printed, and whether of these only those that dropped a byte.
 pub struct Watch {
@@ -26,7 +26,7 @@ pub fn put_words(line: &mut [u8; 80], s: Session, ram: &[u8], rom: &[u8], w: Wat
         return 0;
     }
     let state = s.state;
-    trace::put_next(line, state, ram, rom)
+    console_trace::put_next(line, state, ram, rom)
 }
 
 // Where the next step writes, if it is printed.
@@ -35,7 +35,7 @@ pub fn target(s: Session, ram: &[u8], rom: &[u8], w: Watch) -> usize {
         return STACK;
     }
     let state = s.state;
-    trace::next_target(state, ram, rom)
+    console_trace::next_target(state, ram, rom)
 }
 
 fn traffic(s: Session, t: Session, to: usize) -> Traffic {
@@ -49,14 +49,14 @@ fn traffic(s: Session, t: Session, to: usize) -> Traffic {
 fn print_step(line: [u8; 80], end: usize, to: usize, s: Session, t: Session, log: &[u8]) {
     let a = s.state;
     let b = t.state;
-    trace::write_step(line, end, t.steps, a, b, traffic(s, t, to), log);
+    console_trace::write_step(line, end, t.steps, a, b, traffic(s, t, to), log);
 }
 
 fn print_call(call: u64, s: Session, t: Session, log: &[u8]) {
     let a = s.state;
     let b = t.state;
     let bus = traffic(s, t, STACK);
-    trace::write_call(call / 2 % 256, t.refused != s.refused, a, b, bus, log);
+    console_trace::write_call(call / 2 % 256, t.refused != s.refused, a, b, bus, log);
 }
 
 // The call that was made as the one of this number.
@@ -104,7 +104,7 @@ pub fn note(
     if w.counts & (t.steps != s.steps) {
         let state = s.state;
         let file = state.file;
-        trace::seen::count(keys, counts, file[PS], file[PC]);
+        console_trace::seen::count(keys, counts, file[PS], file[PC]);
     }
 }
 
@@ -113,9 +113,9 @@ pub fn keep_counts(out: Output, keys: &[u32; 65536], counts: &[u64; 65536]) -> b
     if !out.wanted {
         return true;
     }
-    if trace::seen::write_counts(out.fd, keys, counts) {
+    if console_trace::seen::write_counts(out.fd, keys, counts) {
         return true;
     }
-    files::say(b"v30: cannot write the addresses\n");
+    console_files::say(b"v30: cannot write the addresses\n");
     false
 }

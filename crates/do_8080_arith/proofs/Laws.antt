@@ -26,11 +26,11 @@ use Rattle.sheet.specs.CardArithmetic.{daaResult, cardTwo, changing, counting, 
 use Rattle.sheet.specs.CardPoint.{ldax, stax}
 use Rattle.sheet.specs.Contract.{OnFile, OnMemory, flagged}
 use Rattle.sheet.proofs.Lifted.{file-seq, file-pure, file-registers, file-flag, file-flags, memory-seq, memory-free, memory-last, memory-at-most, on-memory}
-use Rattle.registers.proofs.Laws.{file-reg}
-use Rattle.memory.specs.Accesses.{Loads, Stores}
-use Rattle.psw.proofs.Results.{file-affect, value-is}
-use Rattle.shift.specs.Carry.{carried}
-use Rattle.shift.proofs.CarryLaws.{carry-ends}
+use Rattle.mach_registers.proofs.Laws.{file-reg}
+use Rattle.mach_memory.specs.Accesses.{Loads, Stores}
+use Rattle.calc_psw.proofs.Results.{file-affect, value-is}
+use Rattle.calc_shift.specs.Carry.{carried}
+use Rattle.calc_shift.proofs.CarryLaws.{carry-ends}
 use Rattle.calc_8080.specs.CardOperate.{cardOperated}
 use Rattle.calc_8080.proofs.Laws.{operate-file}
 

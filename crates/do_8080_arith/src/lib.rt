@@ -1,6 +1,6 @@
 // Arithmetic of the 8080 mode, and LDAX and STAX.
-use registers::DS0;
-use registers::PSW;
+use mach_registers::DS0;
+use mach_registers::PSW;
 use sheet::Bus;
 use sheet::Operation;
 use sheet::Place;
@@ -16,20 +16,20 @@ ghost use Rattle.sheet.specs.Arithmetic as native;
 ghost use Rattle.sheet.specs.CardArithmetic as tree;
 ghost use Rattle.sheet.specs.CardPoint as through;
 ghost use Rattle.sheet.specs.Contract.{OnFile};
-ghost use Rattle.tally.specs.Lent.{Does};
+ghost use Rattle.mach_tally.specs.Lent.{Does};
 
 // CMP drops the difference.
 fn conclude(file: &mut [u16; 14], op: Operation, v: u16)
     ensures { λ _. ⌜ OnFile Unit (native.conclude op false (InRegister AL) v) (now (file .entry)) tt (now (file .exit)) ⌝ }
 {
     match op {
-        Operation::Add => registers::set_reg(false, file, 0, v),
-        Operation::Or => registers::set_reg(false, file, 0, v),
-        Operation::Addc => registers::set_reg(false, file, 0, v),
-        Operation::Subc => registers::set_reg(false, file, 0, v),
-        Operation::And => registers::set_reg(false, file, 0, v),
-        Operation::Sub => registers::set_reg(false, file, 0, v),
-        Operation::Xor => registers::set_reg(false, file, 0, v),
+        Operation::Add => mach_registers::set_reg(false, file, 0, v),
+        Operation::Or => mach_registers::set_reg(false, file, 0, v),
+        Operation::Addc => mach_registers::set_reg(false, file, 0, v),
+        Operation::Subc => mach_registers::set_reg(false, file, 0, v),
+        Operation::And => mach_registers::set_reg(false, file, 0, v),
+        Operation::Sub => mach_registers::set_reg(false, file, 0, v),
+        Operation::Xor => mach_registers::set_reg(false, file, 0, v),
         Operation::Cmp => {}
     }
 }
@@ -38,8 +38,8 @@ fn conclude(file: &mut [u16; 14], op: Operation, v: u16)
 fn two(file: &mut [u16; 14], ram: &mut [u8], rom: &[u8], op: Operation, from: Source) -> Bus
     ensures { λ r. ⌜ Does (tree.cardTwo op from) file ram rom r 4 ⌝ }
 {
-    let a = registers::reg(false, file, 0);
-    let b = operand::source_value(false, file, ram, rom, from);
+    let a = mach_registers::reg(false, file, 0);
+    let b = mach_operand::source_value(false, file, ram, rom, from);
     let x = calc_8080::operate(op, a, b.value, file[PSW]);
     file[PSW] = x.psw;
     conclude(file, op, x.value);
@@ -49,82 +49,82 @@ fn two(file: &mut [u16; 14], ram: &mut [u8], rom: &[u8], op: Operation, from: So
 fn inr(file: &mut [u16; 14], ram: &mut [u8], rom: &[u8], to: Place) -> Bus
     ensures { λ r. ⌜ Does (tree.changing tree.increased to) file ram rom r 4 ⌝ }
 {
-    let spot = operand::locate(file, to);
-    let a = operand::fetch(false, file, ram, rom, spot);
+    let spot = mach_operand::locate(file, to);
+    let a = mach_operand::fetch(false, file, ram, rom, spot);
     let x = calc_8080::increased(a.value, file[PSW]);
     file[PSW] = x.psw;
-    let b = operand::deposit(false, file, ram, rom, spot, x.value);
-    tally::both(a.bus, b)
+    let b = mach_operand::deposit(false, file, ram, rom, spot, x.value);
+    mach_tally::both(a.bus, b)
 }
 
 fn dcr(file: &mut [u16; 14], ram: &mut [u8], rom: &[u8], to: Place) -> Bus
     ensures { λ r. ⌜ Does (tree.changing tree.decreased to) file ram rom r 4 ⌝ }
 {
-    let spot = operand::locate(file, to);
-    let a = operand::fetch(false, file, ram, rom, spot);
+    let spot = mach_operand::locate(file, to);
+    let a = mach_operand::fetch(false, file, ram, rom, spot);
     let x = calc_8080::decreased(a.value, file[PSW]);
     file[PSW] = x.psw;
-    let b = operand::deposit(false, file, ram, rom, spot, x.value);
-    tally::both(a.bus, b)
+    let b = mach_operand::deposit(false, file, ram, rom, spot, x.value);
+    mach_tally::both(a.bus, b)
 }
 
 fn inx(file: &mut [u16; 14], ram: &mut [u8], rom: &[u8], pair: u8) -> Bus
     ensures { λ r. ⌜ Does (tree.counting tree.up pair) file ram rom r 4 ⌝ }
 {
-    let x = registers::reg(true, file, pair);
-    registers::set_reg(true, file, pair, word::plus16(x, 1));
-    tally::none()
+    let x = mach_registers::reg(true, file, pair);
+    mach_registers::set_reg(true, file, pair, calc_word::plus16(x, 1));
+    mach_tally::none()
 }
 
 fn dcx(file: &mut [u16; 14], ram: &mut [u8], rom: &[u8], pair: u8) -> Bus
     ensures { λ r. ⌜ Does (tree.counting tree.down pair) file ram rom r 4 ⌝ }
 {
-    let x = registers::reg(true, file, pair);
-    registers::set_reg(true, file, pair, word::minus16(x, 1));
-    tally::none()
+    let x = mach_registers::reg(true, file, pair);
+    mach_registers::set_reg(true, file, pair, calc_word::minus16(x, 1));
+    mach_tally::none()
 }
 
 // CY alone.
 fn dad(file: &mut [u16; 14], ram: &mut [u8], rom: &[u8], pair: u8) -> Bus
     ensures { λ r. ⌜ Does (tree.dad pair) file ram rom r 4 ⌝ }
 {
-    let x = registers::reg(true, file, 3);
-    let y = registers::reg(true, file, pair);
+    let x = mach_registers::reg(true, file, 3);
+    let y = mach_registers::reg(true, file, pair);
     let t = calc_8080::sum16(x, y);
-    file[PSW] = psw::with_cy(t.cy, file[PSW]);
-    registers::set_reg(true, file, 3, t.value);
-    tally::none()
+    file[PSW] = calc_psw::with_cy(t.cy, file[PSW]);
+    mach_registers::set_reg(true, file, 3, t.value);
+    mach_tally::none()
 }
 
 fn rotate(file: &mut [u16; 14], ram: &mut [u8], rom: &[u8], kind: Shift) -> Bus
     ensures { λ r. ⌜ Does (tree.rotate kind) file ram rom r 4 ⌝ }
 {
-    let a = registers::reg(false, file, 0);
-    let c = shift::carry_in(kind, file[PSW]);
+    let a = mach_registers::reg(false, file, 0);
+    let c = calc_shift::carry_in(kind, file[PSW]);
     let x = calc_8080::rotate(kind, a, c, file[PSW]);
     file[PSW] = x.psw;
-    registers::set_reg(false, file, 0, x.value);
-    tally::none()
+    mach_registers::set_reg(false, file, 0, x.value);
+    mach_tally::none()
 }
 
 fn daa(file: &mut [u16; 14], ram: &mut [u8], rom: &[u8]) -> Bus
     ensures { λ r. ⌜ Does tree.daa file ram rom r 4 ⌝ }
 {
-    let a = registers::reg(false, file, 0);
+    let a = mach_registers::reg(false, file, 0);
     let x = calc_8080::daa(a, file[PSW]);
     file[PSW] = x.psw;
-    registers::set_reg(false, file, 0, x.value);
-    tally::none()
+    mach_registers::set_reg(false, file, 0, x.value);
+    mach_tally::none()
 }
 
 fn cma(file: &mut [u16; 14], ram: &mut [u8], rom: &[u8]) -> Bus
     ensures { λ r. ⌜ Does tree.cma file ram rom r 4 ⌝ }
 {
-    let a = registers::reg(false, file, 0);
-    let x = arith::one(Unary::Not, false, a, file[PSW]);
+    let a = mach_registers::reg(false, file, 0);
+    let x = calc_arith::one(Unary::Not, false, a, file[PSW]);
     file[PSW] = x.psw;
-    registers::set_reg(false, file, 0, x.value);
-    tally::none()
+    mach_registers::set_reg(false, file, 0, x.value);
+    mach_tally::none()
 }
 
 pub fn calculate(file: &mut [u16; 14], ram: &mut [u8], rom: &[u8], i: CardArithmetic) -> Bus
@@ -147,9 +147,9 @@ fn ldax(file: &mut [u16; 14], ram: &mut [u8], rom: &[u8], pair: u8) -> Bus
     ensures { λ r. ⌜ Does (through.ldax pair) file ram rom r 2 ⌝ }
 {
     let ds0 = file[DS0];
-    let o = registers::reg(true, file, pair);
-    let v = memory::load(false, ram, rom, ds0, o);
-    registers::set_reg(false, file, 0, v.value);
+    let o = mach_registers::reg(true, file, pair);
+    let v = mach_memory::load(false, ram, rom, ds0, o);
+    mach_registers::set_reg(false, file, 0, v.value);
     v.bus
 }
 
@@ -157,9 +157,9 @@ fn stax(file: &mut [u16; 14], ram: &mut [u8], rom: &[u8], pair: u8) -> Bus
     ensures { λ r. ⌜ Does (through.stax pair) file ram rom r 2 ⌝ }
 {
     let ds0 = file[DS0];
-    let o = registers::reg(true, file, pair);
-    let a = registers::reg(false, file, 0);
-    memory::store(false, ram, ds0, o, a)
+    let o = mach_registers::reg(true, file, pair);
+    let a = mach_registers::reg(false, file, 0);
+    mach_memory::store(false, ram, ds0, o, a)
 }
 
 pub fn point(file: &mut [u16; 14], ram: &mut [u8], rom: &[u8], i: CardPoint) -> Bus

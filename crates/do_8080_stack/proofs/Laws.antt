@@ -14,8 +14,8 @@ use Rattle.sheet.specs.Transfer.{flagsOfByte}
 use Rattle.sheet.specs.CardStack.{cardPush, cardPop, pushPair, popPair, pushAlPsw, popAlPsw, xthl}
 use Rattle.sheet.specs.Contract.{OnFile, OnMemory}
 use Rattle.sheet.proofs.Lifted.{file-seq, file-pure, file-registers, file-set, file-psw, file-flags, memory-seq, memory-free, memory-last}
-use Rattle.registers.proofs.Laws.{file-reg}
-use Rattle.memory.specs.Accesses.{Loads, Stores}
+use Rattle.mach_registers.proofs.Laws.{file-reg}
+use Rattle.mach_memory.specs.Accesses.{Loads, Stores}
 
 module _ (f ram rom : List ℕ) where
   pub push-is : (ram′ : List ℕ) (v bp ds0 : ℕ) (n : Bus) → bp ≡ sub16 (getD f BP 0) 2 → ds0 ≡ getD f DS0 0 → Stores true ram ds0 bp v ram′ n → OnMemory Unit (cardPush v) f ram rom tt (set f BP bp) ram′ n 2

@@ -1,24 +1,24 @@
 // The stack of the 8080 mode, at DS0:BP: PUSH, POP, XTHL.
-use memory::Loaded;
-use registers::AW;
-use registers::BP;
-use registers::BW;
-use registers::DS0;
-use registers::PSW;
+use mach_memory::Loaded;
+use mach_registers::AW;
+use mach_registers::BP;
+use mach_registers::BW;
+use mach_registers::DS0;
+use mach_registers::PSW;
 use sheet::Bus;
 use sheet::cards::CardStack;
 ghost use mathlib.Core.Path.{_≡_};
 ghost use Prim.Native.Nat.{ℕ};
 ghost use Rattle.sheet.specs.CardStack as tree;
-ghost use Rattle.tally.specs.Lent.{Does, Takes};
+ghost use Rattle.mach_tally.specs.Lent.{Does, Takes};
 
 pub fn push(file: &mut [u16; 14], ram: &mut [u8], rom: &[u8], v: u16) -> Bus
     ensures { λ r. ⌜ Does (tree.cardPush v) file ram rom r 2 ⌝ }
 {
-    let bp = word::minus16(file[BP], 2);
+    let bp = calc_word::minus16(file[BP], 2);
     let ds0 = file[DS0];
     file[BP] = bp;
-    memory::store(true, ram, ds0, bp, v)
+    mach_memory::store(true, ram, ds0, bp, v)
 }
 
 pub fn pop(file: &mut [u16; 14], ram: &[u8], rom: &[u8]) -> Loaded
@@ -26,14 +26,14 @@ pub fn pop(file: &mut [u16; 14], ram: &[u8], rom: &[u8]) -> Loaded
 {
     let bp = file[BP];
     let ds0 = file[DS0];
-    file[BP] = word::plus16(bp, 2);
-    memory::load(true, ram, rom, ds0, bp)
+    file[BP] = calc_word::plus16(bp, 2);
+    mach_memory::load(true, ram, rom, ds0, bp)
 }
 
 fn push_pair(file: &mut [u16; 14], ram: &mut [u8], rom: &[u8], pair: u8) -> Bus
     ensures { λ r. ⌜ Does (tree.pushPair pair) file ram rom r 2 ⌝ }
 {
-    let v = registers::reg(true, file, pair);
+    let v = mach_registers::reg(true, file, pair);
     push(file, ram, rom, v)
 }
 
@@ -41,7 +41,7 @@ fn pop_pair(file: &mut [u16; 14], ram: &mut [u8], rom: &[u8], pair: u8) -> Bus
     ensures { λ r. ⌜ Does (tree.popPair pair) file ram rom r 2 ⌝ }
 {
     let v = pop(file, ram, rom);
-    registers::set_reg(true, file, pair, v.value);
+    mach_registers::set_reg(true, file, pair, v.value);
     v.bus
 }
 
@@ -58,8 +58,8 @@ fn pop_al_psw(file: &mut [u16; 14], ram: &mut [u8], rom: &[u8]) -> Bus
     ensures { λ r. ⌜ Does tree.popAlPsw file ram rom r 2 ⌝ }
 {
     let v = pop(file, ram, rom);
-    file[PSW] = psw::from_ah(v.value % 256, file[PSW]);
-    registers::set_reg(false, file, 0, v.value / 256);
+    file[PSW] = calc_psw::from_ah(v.value % 256, file[PSW]);
+    mach_registers::set_reg(false, file, 0, v.value / 256);
     v.bus
 }
 
@@ -69,10 +69,10 @@ fn xthl(file: &mut [u16; 14], ram: &mut [u8], rom: &[u8]) -> Bus
     let ds0 = file[DS0];
     let bp = file[BP];
     let bw = file[BW];
-    let v = memory::load(true, ram, rom, ds0, bp);
-    let b = memory::store(true, ram, ds0, bp, bw);
+    let v = mach_memory::load(true, ram, rom, ds0, bp);
+    let b = mach_memory::store(true, ram, ds0, bp, bw);
     file[BW] = v.value;
-    tally::both(v.bus, b)
+    mach_tally::both(v.bus, b)
 }
 
 pub fn stack(file: &mut [u16; 14], ram: &mut [u8], rom: &[u8], i: CardStack) -> Bus

@@ -21,9 +21,9 @@ use Rattle.sheet.specs.Operand.{locate, fetch, deposit, valueAt, sourceValue}
 use Rattle.sheet.specs.Arithmetic.{Result, logical, unary, operate, conclude, two, one, test, finish}
 use Rattle.sheet.specs.Contract.{OnFile, OnMemory, flagged}
 use Rattle.sheet.proofs.Lifted.{file-pure, memory-seq, memory-free, memory-last, memory-at-most, on-memory}
-use Rattle.psw.proofs.Results.{file-affect, value-is}
-use Rattle.arith.specs.Operate.{operated}
-use Rattle.arith.proofs.OperateLaws.{operate-ends}
+use Rattle.calc_psw.proofs.Results.{file-affect, value-is}
+use Rattle.calc_arith.specs.Operate.{operated}
+use Rattle.calc_arith.proofs.OperateLaws.{operate-ends}
 
 -- what the operation hands on, from the CY of PSW
 operate-file : (op : Operation) (w : Bool) (a b : ℕ) (f : List ℕ) → OnFile Result (operate op w a b) f (operated op w a b (flagOf (getD f PSW 0) CY)) f

@@ -1,5 +1,5 @@
 // Addition, subtraction, comparison, logic, increment, decrement, complement.
-use registers::PSW;
+use mach_registers::PSW;
 use sheet::Arithmetic;
 use sheet::Bus;
 use sheet::Operation;
@@ -10,8 +10,8 @@ use sheet::Unary;
 ghost use mathlib.Core.Path.{_≡_};
 ghost use Prim.Native.Nat.{ℕ};
 ghost use Rattle.sheet.specs.Arithmetic as tree;
-ghost use Rattle.sheet.specs.Execute.{calculate};
-ghost use Rattle.tally.specs.Lent.{Does};
+ghost use Rattle.sheet.specs.Arithmetic.{calculate};
+ghost use Rattle.mach_tally.specs.Lent.{Does};
 
 // CMP drops the difference.
 fn conclude(
@@ -26,14 +26,14 @@ fn conclude(
     ensures { λ r. ⌜ Does (tree.conclude op word spot v) file ram rom r 2 ⌝ }
 {
     match op {
-        Operation::Add => operand::deposit(word, file, ram, rom, spot, v),
-        Operation::Or => operand::deposit(word, file, ram, rom, spot, v),
-        Operation::Addc => operand::deposit(word, file, ram, rom, spot, v),
-        Operation::Subc => operand::deposit(word, file, ram, rom, spot, v),
-        Operation::And => operand::deposit(word, file, ram, rom, spot, v),
-        Operation::Sub => operand::deposit(word, file, ram, rom, spot, v),
-        Operation::Xor => operand::deposit(word, file, ram, rom, spot, v),
-        Operation::Cmp => tally::none(),
+        Operation::Add => mach_operand::deposit(word, file, ram, rom, spot, v),
+        Operation::Or => mach_operand::deposit(word, file, ram, rom, spot, v),
+        Operation::Addc => mach_operand::deposit(word, file, ram, rom, spot, v),
+        Operation::Subc => mach_operand::deposit(word, file, ram, rom, spot, v),
+        Operation::And => mach_operand::deposit(word, file, ram, rom, spot, v),
+        Operation::Sub => mach_operand::deposit(word, file, ram, rom, spot, v),
+        Operation::Xor => mach_operand::deposit(word, file, ram, rom, spot, v),
+        Operation::Cmp => mach_tally::none(),
     }
 }
 
@@ -48,24 +48,24 @@ fn two(
 ) -> Bus
     ensures { λ r. ⌜ Does (tree.two op word to from) file ram rom r 6 ⌝ }
 {
-    let spot = operand::locate(file, to);
-    let a = operand::fetch(word, file, ram, rom, spot);
-    let b = operand::source_value(word, file, ram, rom, from);
-    let x = arith::operate(op, word, a.value, b.value, file[PSW]);
+    let spot = mach_operand::locate(file, to);
+    let a = mach_operand::fetch(word, file, ram, rom, spot);
+    let b = mach_operand::source_value(word, file, ram, rom, from);
+    let x = calc_arith::operate(op, word, a.value, b.value, file[PSW]);
     file[PSW] = x.psw;
     let c = conclude(file, ram, rom, op, word, spot, x.value);
-    tally::three(a.bus, b.bus, c)
+    mach_tally::three(a.bus, b.bus, c)
 }
 
 fn one(file: &mut [u16; 14], ram: &mut [u8], rom: &[u8], op: Unary, word: bool, to: Place) -> Bus
     ensures { λ r. ⌜ Does (tree.one op word to) file ram rom r 6 ⌝ }
 {
-    let spot = operand::locate(file, to);
-    let a = operand::fetch(word, file, ram, rom, spot);
-    let x = arith::one(op, word, a.value, file[PSW]);
+    let spot = mach_operand::locate(file, to);
+    let a = mach_operand::fetch(word, file, ram, rom, spot);
+    let x = calc_arith::one(op, word, a.value, file[PSW]);
     file[PSW] = x.psw;
-    let b = operand::deposit(word, file, ram, rom, spot, x.value);
-    tally::both(a.bus, b)
+    let b = mach_operand::deposit(word, file, ram, rom, spot, x.value);
+    mach_tally::both(a.bus, b)
 }
 
 fn test(
@@ -78,11 +78,11 @@ fn test(
 ) -> Bus
     ensures { λ r. ⌜ Does (tree.test word left right) file ram rom r 6 ⌝ }
 {
-    let a = operand::value_at(word, file, ram, rom, left);
-    let b = operand::source_value(word, file, ram, rom, right);
-    let x = arith::logic(word, a.value & b.value, file[PSW]);
+    let a = mach_operand::value_at(word, file, ram, rom, left);
+    let b = mach_operand::source_value(word, file, ram, rom, right);
+    let x = calc_arith::logic(word, a.value & b.value, file[PSW]);
     file[PSW] = x.psw;
-    tally::both(a.bus, b.bus)
+    mach_tally::both(a.bus, b.bus)
 }
 
 pub fn calculate(file: &mut [u16; 14], ram: &mut [u8], rom: &[u8], i: Arithmetic) -> Bus

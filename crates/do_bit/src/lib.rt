@@ -1,5 +1,5 @@
 // TEST1, CLR1, SET1, NOT1 on one bit of an operand.
-use registers::PSW;
+use mach_registers::PSW;
 use sheet::Amount;
 use sheet::Bit;
 use sheet::Bus;
@@ -7,7 +7,7 @@ use sheet::Place;
 use sheet::Spot;
 ghost use Rattle.sheet.specs.Operand.{deposit};
 ghost use Rattle.sheet.specs.Bits as tree;
-ghost use Rattle.tally.specs.Lent.{Does};
+ghost use Rattle.mach_tally.specs.Lent.{Does};
 
 // Writes x with its bit n as given.
 fn write_bit(
@@ -22,8 +22,8 @@ fn write_bit(
 ) -> Bus
     ensures { λ r. ⌜ Does (deposit word spot (tree.withBit x (tree.bitNumber word n) b)) file ram rom r 2 ⌝ }
 {
-    let v = bits::with_bit(word, x, n, b);
-    operand::deposit(word, file, ram, rom, spot, v)
+    let v = calc_bits::with_bit(word, x, n, b);
+    mach_operand::deposit(word, file, ram, rom, spot, v)
 }
 
 fn bit_done(
@@ -40,13 +40,13 @@ fn bit_done(
 {
     match op {
         Bit::Test1 => {
-            file[PSW] = bits::after_test(word, x, n, file[PSW]);
-            tally::none()
+            file[PSW] = calc_bits::after_test(word, x, n, file[PSW]);
+            mach_tally::none()
         }
         Bit::Clr1 => write_bit(file, ram, rom, word, spot, x, n, false),
         Bit::Set1 => write_bit(file, ram, rom, word, spot, x, n, true),
         Bit::Not1 => {
-            let b = bits::bit_at(word, x, n);
+            let b = calc_bits::bit_at(word, x, n);
             write_bit(file, ram, rom, word, spot, x, n, !b)
         }
     }
@@ -63,9 +63,9 @@ pub fn bits(
 ) -> Bus
     ensures { λ r. ⌜ Does (tree.bits op word to number) file ram rom r 4 ⌝ }
 {
-    let n = operand::amount(file, number);
-    let spot = operand::locate(file, to);
-    let x = operand::fetch(word, file, ram, rom, spot);
+    let n = mach_operand::amount(file, number);
+    let spot = mach_operand::locate(file, to);
+    let x = mach_operand::fetch(word, file, ram, rom, spot);
     let b = bit_done(file, ram, rom, op, word, spot, x.value, n);
-    tally::both(x.bus, b)
+    mach_tally::both(x.bus, b)
 }

@@ -18,10 +18,10 @@ use Rattle.sheet.specs.Arithmetic.{difference}
 use Rattle.sheet.specs.Block.{stepIndex, sourceElement, targetElement, setTarget, primitive, afterElement, element, block}
 use Rattle.sheet.specs.Contract.{OnFile, OnMemory}
 use Rattle.sheet.proofs.Lifted.{file-seq, memory-seq, memory-free, memory-last, memory-at-most}
-use Rattle.registers.proofs.Laws.{file-reg}
-use Rattle.elements.specs.declared.Due.{Due}
-use Rattle.elements.specs.Due.{dueOf, dueTree}
-use Rattle.elements.proofs.DueLaws.{element-is, due-memory}
+use Rattle.mach_registers.proofs.Laws.{file-reg}
+use Rattle.mach_element.specs.declared.Due.{Due}
+use Rattle.mach_element.specs.Due.{dueOf, dueTree}
+use Rattle.mach_element.proofs.DueLaws.{element-is, due-memory}
 use Rattle.do_block.specs.declared.Portless.{Portless}
 use Rattle.do_block.specs.declared.Portless.the-variants.{Movbk, Cmpbk, Cmpm, Ldm, Stm}
 use Rattle.do_block.specs.Portless.{primitiveOf}

@@ -1,7 +1,7 @@
 // The block primitives that use no port, single and repeated.
-use elements::Due;
-use registers::CW;
-use registers::PSW;
+use mach_element::Due;
+use mach_registers::CW;
+use mach_registers::PSW;
 use sheet::Bus;
 use sheet::Primitive;
 use sheet::Repeat;
@@ -12,63 +12,63 @@ ghost use Rattle.sheet.specs.Act.{affect};
 ghost use Rattle.sheet.specs.Arithmetic.{difference};
 ghost use Rattle.sheet.specs.Block as tree;
 ghost use Rattle.sheet.specs.Contract.{OnFile};
-ghost use Rattle.tally.specs.Lent.{Does};
+ghost use Rattle.mach_tally.specs.Lent.{Does};
 ghost use Rattle.do_block.specs.Portless.{primitiveOf};
 
 // The flags of a comparison.
 fn compare(word: bool, file: &mut [u16; 14], a: u16, b: u16)
     ensures { λ _. ⌜ OnFile Unit (affect (difference word a b false .column)) (now (file .entry)) tt (now (file .exit)) ⌝ }
 {
-    let d = arith::sub(word, a, b, false, file[PSW]);
+    let d = calc_arith::sub(word, a, b, false, file[PSW]);
     file[PSW] = d.psw;
 }
 
 fn movbk(file: &mut [u16; 14], ram: &mut [u8], rom: &[u8], word: bool, seg: u8) -> Bus
     ensures { λ r. ⌜ Does (tree.primitive sheet.Movbk word seg) file ram rom r 4 ⌝ }
 {
-    let v = elements::source_element(word, file, ram, rom, seg);
-    let b = elements::set_target(word, file, ram, rom, v.value);
-    elements::step_ix(word, file);
-    elements::step_iy(word, file);
-    tally::both(v.bus, b)
+    let v = mach_element::source_element(word, file, ram, rom, seg);
+    let b = mach_element::set_target(word, file, ram, rom, v.value);
+    mach_element::step_ix(word, file);
+    mach_element::step_iy(word, file);
+    mach_tally::both(v.bus, b)
 }
 
 fn cmpbk(file: &mut [u16; 14], ram: &mut [u8], rom: &[u8], word: bool, seg: u8) -> Bus
     ensures { λ r. ⌜ Does (tree.primitive sheet.Cmpbk word seg) file ram rom r 4 ⌝ }
 {
-    let a = elements::source_element(word, file, ram, rom, seg);
-    let b = elements::target_element(word, file, ram, rom);
+    let a = mach_element::source_element(word, file, ram, rom, seg);
+    let b = mach_element::target_element(word, file, ram, rom);
     compare(word, file, a.value, b.value);
-    elements::step_ix(word, file);
-    elements::step_iy(word, file);
-    tally::both(a.bus, b.bus)
+    mach_element::step_ix(word, file);
+    mach_element::step_iy(word, file);
+    mach_tally::both(a.bus, b.bus)
 }
 
 fn cmpm(file: &mut [u16; 14], ram: &mut [u8], rom: &[u8], word: bool, seg: u8) -> Bus
     ensures { λ r. ⌜ Does (tree.primitive sheet.Cmpm word seg) file ram rom r 4 ⌝ }
 {
-    let a = registers::reg(word, file, 0);
-    let b = elements::target_element(word, file, ram, rom);
+    let a = mach_registers::reg(word, file, 0);
+    let b = mach_element::target_element(word, file, ram, rom);
     compare(word, file, a, b.value);
-    elements::step_iy(word, file);
+    mach_element::step_iy(word, file);
     b.bus
 }
 
 fn ldm(file: &mut [u16; 14], ram: &mut [u8], rom: &[u8], word: bool, seg: u8) -> Bus
     ensures { λ r. ⌜ Does (tree.primitive sheet.Ldm word seg) file ram rom r 4 ⌝ }
 {
-    let v = elements::source_element(word, file, ram, rom, seg);
-    registers::set_reg(word, file, 0, v.value);
-    elements::step_ix(word, file);
+    let v = mach_element::source_element(word, file, ram, rom, seg);
+    mach_registers::set_reg(word, file, 0, v.value);
+    mach_element::step_ix(word, file);
     v.bus
 }
 
 fn stm(file: &mut [u16; 14], ram: &mut [u8], rom: &[u8], word: bool, seg: u8) -> Bus
     ensures { λ r. ⌜ Does (tree.primitive sheet.Stm word seg) file ram rom r 4 ⌝ }
 {
-    let v = registers::reg(word, file, 0);
-    let b = elements::set_target(word, file, ram, rom, v);
-    elements::step_iy(word, file);
+    let v = mach_registers::reg(word, file, 0);
+    let b = mach_element::set_target(word, file, ram, rom, v);
+    mach_element::step_iy(word, file);
     b
 }
 
@@ -126,7 +126,7 @@ fn element(
 {
     let b = primitive(file, ram, rom, kind, word, seg);
     let k = named(kind);
-    elements::finish_element(file, k, repeat, start);
+    mach_element::finish_element(file, k, repeat, start);
     b
 }
 
@@ -143,9 +143,9 @@ pub fn block(
 ) -> Bus
     ensures { λ r. ⌜ Does (tree.block (primitiveOf kind) word seg repeat start) file ram rom r 4 ⌝ }
 {
-    let due = elements::what_is_due(file[CW], repeat);
+    let due = mach_element::what_is_due(file[CW], repeat);
     match due {
-        Due::Nothing => tally::none(),
+        Due::Nothing => mach_tally::none(),
         Due::Single => primitive(file, ram, rom, kind, word, seg),
         Due::Element => element(file, ram, rom, kind, word, seg, repeat, start),
     }

@@ -10,10 +10,10 @@ use Rattle.sheet.specs.declared.Repeat.{Repeat}
 use Rattle.sheet.specs.World.{stateOf}
 use Rattle.sheet.specs.Block.{block}
 use Rattle.sheet.specs.Contract.{OnMemory}
-use Rattle.tally.proofs.Bounds.{within-memory}
-use Rattle.ports.specs.declared.Ported.{Ported}
-use Rattle.ports.specs.Accesses.{OnPorts}
-use Rattle.ports.proofs.Told.{ports-end, ports-known}
+use Rattle.mach_tally.proofs.Bounds.{within-memory}
+use Rattle.mach_ports.specs.declared.Ported.{Ported}
+use Rattle.mach_ports.specs.Accesses.{OnPorts}
+use Rattle.mach_ports.proofs.Told.{ports-end, ports-known}
 use Rattle.do_block.specs.declared.Portless.{Portless}
 use Rattle.do_block.specs.Portless.{primitiveOf}
 

@@ -1,14 +1,14 @@
 // The block instructions, with and without ports.
 use do_block::Portless;
-use do_port_block::Streaming;
-use ports::Ported;
+use do_stream::Streaming;
+use mach_ports::Ported;
 use sheet::Bus;
 use sheet::Primitive;
 use sheet::Progress;
 use sheet::Repeat;
 ghost use mathlib.Core.Path.{_≡_};
 ghost use Rattle.sheet.specs.Block as tree;
-ghost use Rattle.ports.specs.Accesses.{OnPorts};
+ghost use Rattle.mach_ports.specs.Accesses.{OnPorts};
 
 // A block instruction that used no port.
 fn portless(q: Progress, b: Bus) -> Ported
@@ -57,7 +57,7 @@ pub fn block(
             q,
             do_block::block(file, ram, rom, Portless::Stm, word, seg, repeat, start),
         ),
-        Primitive::Inm => do_port_block::stream(
+        Primitive::Inm => do_stream::stream(
             file,
             ram,
             rom,
@@ -70,7 +70,7 @@ pub fn block(
             repeat,
             start,
         ),
-        Primitive::Outm => do_port_block::stream(
+        Primitive::Outm => do_stream::stream(
             file,
             ram,
             rom,

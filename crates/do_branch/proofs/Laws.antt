@@ -16,7 +16,7 @@ use Rattle.sheet.specs.Traps.{pop, popInto, jumpFar}
 use Rattle.sheet.specs.Branch.{release, ret, retPop, retFar, retFarPop, brTo, brFarAt, branch}
 use Rattle.sheet.specs.Contract.{OnFile, OnMemory}
 use Rattle.sheet.proofs.Lifted.{file-known, file-seq, file-registers, file-set, memory-seq, memory-free, memory-last, on-memory}
-use Rattle.memory.specs.Accesses.{Loads}
+use Rattle.mach_memory.specs.Accesses.{Loads}
 
 module _ (f g h ram rom : List ℕ) where
   pub release-is : (size x : ℕ) → x ≡ add16 (getD f SP 0) size → OnFile Unit (release size) f tt (set f SP x)

@@ -1,24 +1,24 @@
 // CALL, RET, BR. PC stands on the next instruction when these begin.
-use registers::PC;
-use registers::SP;
+use mach_registers::PC;
+use mach_registers::SP;
 use sheet::Address;
 use sheet::Branch;
 use sheet::Bus;
 use sheet::Place;
 ghost use Rattle.sheet.specs.Branch as tree;
 ghost use Rattle.sheet.specs.Contract.{OnFile};
-ghost use Rattle.tally.specs.Lent.{Does, Takes};
+ghost use Rattle.mach_tally.specs.Lent.{Does, Takes};
 
 fn release(file: &mut [u16; 14], size: u16)
     ensures { λ _. ⌜ OnFile Unit (tree.release size) (now (file .entry)) tt (now (file .exit)) ⌝ }
 {
-    file[SP] = word::plus16(file[SP], size);
+    file[SP] = calc_word::plus16(file[SP], size);
 }
 
 fn ret(file: &mut [u16; 14], ram: &[u8], rom: &[u8]) -> Bus
     ensures { λ r. ⌜ Takes Unit tree.ret file ram rom tt r 2 ⌝ }
 {
-    let pc = traps::pop(file, ram, rom);
+    let pc = mach_stack::pop(file, ram, rom);
     file[PC] = pc.value;
     pc.bus
 }
@@ -34,10 +34,10 @@ fn ret_pop(file: &mut [u16; 14], ram: &[u8], rom: &[u8], size: u16) -> Bus
 fn ret_far(file: &mut [u16; 14], ram: &[u8], rom: &[u8]) -> Bus
     ensures { λ r. ⌜ Takes Unit tree.retFar file ram rom tt r 4 ⌝ }
 {
-    let pc = traps::pop(file, ram, rom);
-    let ps = traps::pop(file, ram, rom);
-    jumps::jump_far(file, ps.value, pc.value);
-    tally::both(pc.bus, ps.bus)
+    let pc = mach_stack::pop(file, ram, rom);
+    let ps = mach_stack::pop(file, ram, rom);
+    mach_jump::jump_far(file, ps.value, pc.value);
+    mach_tally::both(pc.bus, ps.bus)
 }
 
 fn ret_far_pop(file: &mut [u16; 14], ram: &[u8], rom: &[u8], size: u16) -> Bus
@@ -51,7 +51,7 @@ fn ret_far_pop(file: &mut [u16; 14], ram: &[u8], rom: &[u8], size: u16) -> Bus
 fn br_to(file: &mut [u16; 14], ram: &[u8], rom: &[u8], to: Place) -> Bus
     ensures { λ r. ⌜ Takes Unit (tree.brTo to) file ram rom tt r 2 ⌝ }
 {
-    let v = operand::value_at(true, file, ram, rom, to);
+    let v = mach_operand::value_at(true, file, ram, rom, to);
     file[PC] = v.value;
     v.bus
 }
@@ -60,13 +60,13 @@ fn br_to(file: &mut [u16; 14], ram: &[u8], rom: &[u8], to: Place) -> Bus
 fn br_far_at(file: &mut [u16; 14], ram: &[u8], rom: &[u8], at: Address) -> Bus
     ensures { λ r. ⌜ Takes Unit (tree.brFarAt at) file ram rom tt r 4 ⌝ }
 {
-    let g = operand::base(file, at);
-    let o = operand::offset(file, at);
-    let next = word::plus16(o, 2);
-    let ps = memory::load(true, ram, rom, g, next);
-    let pc = memory::load(true, ram, rom, g, o);
-    jumps::jump_far(file, ps.value, pc.value);
-    tally::both(ps.bus, pc.bus)
+    let g = mach_operand::base(file, at);
+    let o = mach_operand::offset(file, at);
+    let next = calc_word::plus16(o, 2);
+    let ps = mach_memory::load(true, ram, rom, g, next);
+    let pc = mach_memory::load(true, ram, rom, g, o);
+    mach_jump::jump_far(file, ps.value, pc.value);
+    mach_tally::both(ps.bus, pc.bus)
 }
 
 pub fn branch(file: &mut [u16; 14], ram: &mut [u8], rom: &[u8], i: Branch) -> Bus
@@ -82,17 +82,17 @@ pub fn branch(file: &mut [u16; 14], ram: &mut [u8], rom: &[u8], i: Branch) -> Bu
         Branch::RetFar => ret_far(file, ram, rom),
         Branch::RetFarPop { size } => ret_far_pop(file, ram, rom, size),
         Branch::BrNear { disp } => {
-            jumps::jump(file, disp);
-            tally::none()
+            mach_jump::jump(file, disp);
+            mach_tally::none()
         }
         Branch::BrShort { disp } => {
-            jumps::jump(file, disp);
-            tally::none()
+            mach_jump::jump(file, disp);
+            mach_tally::none()
         }
         Branch::BrTo { to } => br_to(file, ram, rom, to),
         Branch::BrFar { ps, pc } => {
-            jumps::jump_far(file, ps, pc);
-            tally::none()
+            mach_jump::jump_far(file, ps, pc);
+            mach_tally::none()
         }
         Branch::BrFarAt { at } => br_far_at(file, ram, rom, at),
     }

@@ -15,7 +15,7 @@ use Rattle.sheet.specs.Traps.{push, pushPsPc, jumpFar}
 use Rattle.sheet.specs.Branch.{jump, pushPc, callNear, callTo, callFar, callFarAt}
 use Rattle.sheet.specs.Contract.{OnFile, OnMemory}
 use Rattle.sheet.proofs.Lifted.{file-seq, file-registers, file-set, memory-seq, memory-free, memory-last}
-use Rattle.registers.proofs.Laws.{file-reg}
+use Rattle.mach_registers.proofs.Laws.{file-reg}
 
 module _ (f g ram ram′ rom : List ℕ) where
   pub push-pc-is : (pc : ℕ) (n : Bus) → pc ≡ getD f PC 0 → OnMemory Unit (push pc) f ram rom tt g ram′ n 2 → OnMemory Unit pushPc f ram rom tt g ram′ n 2

@@ -1,6 +1,6 @@
 // The conditional branches and the loops. PC stands on the next instruction when these begin.
-use registers::CW;
-use registers::PSW;
+use mach_registers::CW;
+use mach_registers::PSW;
 use sheet::Conditional;
 ghost use mathlib.Core.Bool.{Bool};
 ghost use Rattle.sheet.specs.Branch as tree;
@@ -12,19 +12,19 @@ fn asked(file: &[u16; 14], n: u8) -> bool
 {
     let psw = file[PSW];
     match n / 2 % 8 {
-        0 => flags::v(psw),
-        1 => flags::cy(psw),
-        2 => flags::z(psw),
-        3 => flags::cy(psw) | flags::z(psw),
-        4 => flags::s(psw),
-        5 => flags::p(psw),
-        6 => flags::s(psw) != flags::v(psw),
-        _ => (flags::s(psw) != flags::v(psw)) | flags::z(psw),
+        0 => calc_flags::v(psw),
+        1 => calc_flags::cy(psw),
+        2 => calc_flags::z(psw),
+        3 => calc_flags::cy(psw) | calc_flags::z(psw),
+        4 => calc_flags::s(psw),
+        5 => calc_flags::p(psw),
+        6 => calc_flags::s(psw) != calc_flags::v(psw),
+        _ => (calc_flags::s(psw) != calc_flags::v(psw)) | calc_flags::z(psw),
     }
 }
 
 // The odd conditions are the even ones denied.
-pub fn condition(file: &[u16; 14], n: u8) -> bool
+fn condition(file: &[u16; 14], n: u8) -> bool
     ensures { λ r. ⌜ OnFile Bool (tree.condition n) (now (file .entry)) r (now (file .entry)) ⌝ }
 {
     let b = asked(file, n);
@@ -35,7 +35,7 @@ fn jump_if(file: &mut [u16; 14], b: bool, disp: u16)
     ensures { λ _. ⌜ OnFile Unit (tree.jumpIf b disp) (now (file .entry)) tt (now (file .exit)) ⌝ }
 {
     if b {
-        jumps::jump(file, disp);
+        mach_jump::jump(file, disp);
     }
 }
 
@@ -50,7 +50,7 @@ fn branch_if(file: &mut [u16; 14], n: u8, disp: u16)
 fn count_down(file: &mut [u16; 14]) -> bool
     ensures { λ r. ⌜ OnFile Bool tree.countDown (now (file .entry)) r (now (file .exit)) ⌝ }
 {
-    let cw = word::minus16(file[CW], 1);
+    let cw = calc_word::minus16(file[CW], 1);
     file[CW] = cw;
     cw != 0
 }
@@ -60,7 +60,7 @@ fn dbnz_while(file: &mut [u16; 14], wanted: bool, disp: u16)
     ensures { λ _. ⌜ OnFile Unit (tree.dbnzWhile wanted disp) (now (file .entry)) tt (now (file .exit)) ⌝ }
 {
     let b = count_down(file);
-    let z = flags::z(file[PSW]);
+    let z = calc_flags::z(file[PSW]);
     jump_if(file, b & (z == wanted), disp);
 }
 

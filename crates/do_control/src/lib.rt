@@ -1,5 +1,5 @@
 // HALT, NOP, DI, EI, and CLR1, SET1, NOT1 of CY and DIR.
-use registers::PSW;
+use mach_registers::PSW;
 use sheet::Control;
 use sheet::Marks;
 ghost use Rattle.do_control.specs.Controls.{Controls};
@@ -10,34 +10,34 @@ pub fn control(file: &mut [u16; 14], m: Marks, i: Control) -> Marks
 {
     match i {
         Control::Nop => m,
-        Control::Halt => marks::halting(m),
+        Control::Halt => mach_marks::halting(m),
         Control::Di => {
-            file[PSW] = psw::with_ie(false, file[PSW]);
+            file[PSW] = calc_psw::with_ie(false, file[PSW]);
             m
         }
         Control::Ei => {
-            file[PSW] = psw::with_ie(true, file[PSW]);
+            file[PSW] = calc_psw::with_ie(true, file[PSW]);
             m
         }
         Control::ClrCy => {
-            file[PSW] = psw::with_cy(false, file[PSW]);
+            file[PSW] = calc_psw::with_cy(false, file[PSW]);
             m
         }
         Control::SetCy => {
-            file[PSW] = psw::with_cy(true, file[PSW]);
+            file[PSW] = calc_psw::with_cy(true, file[PSW]);
             m
         }
         Control::NotCy => {
-            let c = flags::cy(file[PSW]);
-            file[PSW] = psw::with_cy(!c, file[PSW]);
+            let c = calc_flags::cy(file[PSW]);
+            file[PSW] = calc_psw::with_cy(!c, file[PSW]);
             m
         }
         Control::ClrDir => {
-            file[PSW] = psw::with_dir(false, file[PSW]);
+            file[PSW] = calc_psw::with_dir(false, file[PSW]);
             m
         }
         Control::SetDir => {
-            file[PSW] = psw::with_dir(true, file[PSW]);
+            file[PSW] = calc_psw::with_dir(true, file[PSW]);
             m
         }
     }

@@ -1,7 +1,7 @@
 -- What each instruction comes to, from what its parts come to.
 use Prim.Native.Nat.{ℕ, _+_, _*_, _/_, _%_}
 use mathlib.Core.Path.{_≡_, refl}
-use mathlib.Core.Bool.{Bool, true, false}
+use mathlib.Core.Bool.{true, false}
 use mathlib.Core.List.{List}
 use lib.ListN.{getD, set}
 use Rattle.sheet.specs.declared.Flagged.{Flagged}
@@ -13,13 +13,11 @@ use Rattle.sheet.specs.Arithmetic.{Result, finish}
 use Rattle.sheet.specs.Operand.{deposit, setReg}
 use Rattle.sheet.specs.declared.Way.{Way}
 use Rattle.sheet.specs.Adjust.{digitsOf, packedResult, unpackedResult, adj4, adjb}
-use Rattle.sheet.specs.Convert.{converted, cvtbd, cvtdb, cvtbw, cvtwl}
-use Rattle.sheet.specs.Convert as sheet
-use Rattle.sheet.specs.Execute.{convert}
+use Rattle.sheet.specs.Convert.{converted, setConverted, cvtbd, cvtdb, cvtbw, cvtwl}
 use Rattle.sheet.specs.Contract.{OnFile, flagged}
 use Rattle.sheet.proofs.Lifted.{file-seq, file-registers, file-set, file-flag}
-use Rattle.registers.proofs.Laws.{file-reg}
-use Rattle.psw.proofs.Results.{file-affect, value-is}
+use Rattle.mach_registers.proofs.Laws.{file-reg}
+use Rattle.calc_psw.proofs.Results.{file-affect, value-is}
 
 module _ (f : List ℕ) where
   pub adj4-is : (way : Way) (al : ℕ) (x : Flagged) (g : List ℕ) → al ≡ readReg false (fileOf f) AL → x ≡ flagged (packedResult way (digitsOf al (flagOf (getD f PSW 0) AC) (flagOf (getD f PSW 0) CY))) (getD f PSW 0)
@@ -40,12 +38,12 @@ module _ (f : List ℕ) where
 
   pub cvtbd-is : (x : Flagged) → x ≡ flagged (converted (getD f AW 0 % 256 / 10) (getD f AW 0 % 256 % 10)) (getD f PSW 0)
       → OnFile Unit cvtbd f tt (set (set f PSW (x .psw)) AW (x .value))
-  unfolding cvtbd sheet.convert readReg
+  unfolding cvtbd setConverted readReg
   cvtbd-is x q = file-seq _ (file-reg false AL refl) (set-result (converted (getD f AW 0 % 256 / 10) (getD f AW 0 % 256 % 10)) x q)
 
   pub cvtdb-is : (x : Flagged) → x ≡ flagged (converted 0 ((getD f AW 0 / 256 * 10 + getD f AW 0 % 256) % 256)) (getD f PSW 0)
       → OnFile Unit cvtdb f tt (set (set f PSW (x .psw)) AW (x .value))
-  unfolding cvtdb sheet.convert readReg
+  unfolding cvtdb setConverted readReg
   cvtdb-is x q =
       file-seq _ (file-reg false AL refl) (file-seq _ (file-reg false AH refl) (set-result (converted 0 ((getD f AW 0 / 256 * 10 + getD f AW 0 % 256) % 256)) x q))
 

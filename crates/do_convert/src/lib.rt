@@ -1,29 +1,28 @@
 // ADJ4A, ADJ4S, ADJBA, ADJBS, CVTBD, CVTDB, CVTBW, CVTWL.
-use registers::AW;
-use registers::DW;
-use registers::PSW;
+use mach_registers::AW;
+use mach_registers::DW;
+use mach_registers::PSW;
 use sheet::Convert;
 use sheet::Way;
 ghost use Rattle.sheet.specs.Adjust as adjust;
 ghost use Rattle.sheet.specs.Contract.{OnFile};
 ghost use Rattle.sheet.specs.Convert as sheet;
-ghost use Rattle.sheet.specs.Execute as tree;
 
 // ADJ4A or ADJ4S.
 fn adj4(file: &mut [u16; 14], way: Way)
     ensures { λ _. ⌜ OnFile Unit (adjust.adj4 way) (now (file .entry)) tt (now (file .exit)) ⌝ }
 {
-    let al = registers::reg(false, file, 0);
-    let x = convert::adj4(way, al, file[PSW]);
+    let al = mach_registers::reg(false, file, 0);
+    let x = calc_convert::adj4(way, al, file[PSW]);
     file[PSW] = x.psw;
-    registers::set_reg(false, file, 0, x.value);
+    mach_registers::set_reg(false, file, 0, x.value);
 }
 
 // ADJBA or ADJBS.
 fn adjb(file: &mut [u16; 14], way: Way)
     ensures { λ _. ⌜ OnFile Unit (adjust.adjb way) (now (file .entry)) tt (now (file .exit)) ⌝ }
 {
-    let x = convert::adjb(way, file[AW], file[PSW]);
+    let x = calc_convert::adjb(way, file[AW], file[PSW]);
     file[PSW] = x.psw;
     file[AW] = x.value;
 }
@@ -31,7 +30,7 @@ fn adjb(file: &mut [u16; 14], way: Way)
 fn cvtbd(file: &mut [u16; 14])
     ensures { λ _. ⌜ OnFile Unit sheet.cvtbd (now (file .entry)) tt (now (file .exit)) ⌝ }
 {
-    let x = convert::cvtbd(file[AW], file[PSW]);
+    let x = calc_convert::cvtbd(file[AW], file[PSW]);
     file[PSW] = x.psw;
     file[AW] = x.value;
 }
@@ -39,7 +38,7 @@ fn cvtbd(file: &mut [u16; 14])
 fn cvtdb(file: &mut [u16; 14])
     ensures { λ _. ⌜ OnFile Unit sheet.cvtdb (now (file .entry)) tt (now (file .exit)) ⌝ }
 {
-    let x = convert::cvtdb(file[AW], file[PSW]);
+    let x = calc_convert::cvtdb(file[AW], file[PSW]);
     file[PSW] = x.psw;
     file[AW] = x.value;
 }
@@ -47,17 +46,17 @@ fn cvtdb(file: &mut [u16; 14])
 fn cvtbw(file: &mut [u16; 14])
     ensures { λ _. ⌜ OnFile Unit sheet.cvtbw (now (file .entry)) tt (now (file .exit)) ⌝ }
 {
-    file[AW] = convert::cvtbw(file[AW]);
+    file[AW] = calc_convert::cvtbw(file[AW]);
 }
 
 fn cvtwl(file: &mut [u16; 14])
     ensures { λ _. ⌜ OnFile Unit sheet.cvtwl (now (file .entry)) tt (now (file .exit)) ⌝ }
 {
-    file[DW] = convert::cvtwl(file[AW]);
+    file[DW] = calc_convert::cvtwl(file[AW]);
 }
 
 pub fn convert(file: &mut [u16; 14], i: Convert)
-    ensures { λ _. ⌜ OnFile Unit (tree.convert i) (now (file .entry)) tt (now (file .exit)) ⌝ }
+    ensures { λ _. ⌜ OnFile Unit (sheet.convert i) (now (file .entry)) tt (now (file .exit)) ⌝ }
 {
     match i {
         Convert::Adjba => adjb(file, Way::Addition),

@@ -13,8 +13,8 @@ use Rattle.sheet.specs.declared.Digits.{Digits}
 use Rattle.sheet.specs.declared.Place.{Place}
 use Rattle.sheet.specs.declared.Spot.{Spot}
 use Rattle.sheet.specs.declared.State.{State}
-use Rattle.flags.specs.declared.Flags.{Flags}
-use Rattle.flags.specs.Flags.{unpacked}
+use Rattle.calc_flags.specs.declared.Flags.{Flags}
+use Rattle.calc_flags.specs.Flags.{unpacked}
 use Rattle.sheet.specs.Width.{add16}
 use Rattle.sheet.specs.Psw.{unknown, becomes, columns, column, keeps, settled}
 use Rattle.sheet.specs.Registers.{CW, IX, IY, DS1, PSW, AL, CL, fileOf, segment, readReg}
@@ -30,10 +30,10 @@ use Rattle.sheet.specs.Contract.{OnFile, OnMemory}
 use Rattle.sheet.proofs.Rules.{⊕-assoc}
 use Rattle.sheet.proofs.Lifted.{file-seq, file-pure, file-registers, file-flags, memory-seq, memory-free, memory-last, memory-at-most, memory-true, file-false}
 use Rattle.sheet.proofs.Loop.{Goes, goes-none, goes-more, goes-end}
-use Rattle.memory.specs.Accesses.{Loads, Stores}
-use Rattle.tally.specs.Sums.{Free, Costs, Joins}
-use Rattle.registers.proofs.Laws.{file-reg}
-use Rattle.decimal.proofs.RotateLaws.{set-wraps}
+use Rattle.mach_memory.specs.Accesses.{Loads, Stores}
+use Rattle.mach_tally.specs.Sums.{Free, Costs, Joins}
+use Rattle.mach_registers.proofs.Laws.{file-reg}
+use Rattle.calc_decimal.proofs.RotateLaws.{set-wraps}
 use Rattle.do_decimal.specs.Both.{Both}
 
 -- ---- one byte of the strings

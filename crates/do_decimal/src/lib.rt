@@ -1,9 +1,9 @@
 // ADD4S, SUB4S, CMP4S, ROL4, ROR4.
-use registers::CW;
-use registers::DS1;
-use registers::IX;
-use registers::IY;
-use registers::PSW;
+use mach_registers::CW;
+use mach_registers::DS1;
+use mach_registers::IX;
+use mach_registers::IY;
+use mach_registers::PSW;
 use sheet::Bus;
 use sheet::Chain;
 use sheet::Decimal;
@@ -14,8 +14,7 @@ ghost use mathlib.Core.Path.{_≡_};
 ghost use Prim.Native.Nat.{_≤_};
 ghost use Rattle.sheet.specs.Psw.{unknown, becomes, columns, column, keeps, settled};
 ghost use Rattle.sheet.specs.Decimal as sheet;
-ghost use Rattle.sheet.specs.Execute as tree;
-ghost use Rattle.tally.specs.Lent.{Does, Fills};
+ghost use Rattle.mach_tally.specs.Lent.{Does, Fills};
 ghost use Rattle.do_decimal.specs.Both.{Both};
 
 // What goes on to the next byte, and what the accesses so far came to.
@@ -35,18 +34,18 @@ struct Bytes {
 fn read_both(file: &[u16; 14], ram: &[u8], rom: &[u8], seg: u8, i: u16) -> Bytes
     ensures { λ r. ⌜ Both (now (file .entry)) (now (ram .entry)) (now (rom .entry)) seg i (r .to) (r .from) (r .bus) ⌝ }
 {
-    let a = memory::load(false, ram, rom, file[DS1], word::plus16(file[IY], i));
-    let b = memory::load(
+    let a = mach_memory::load(false, ram, rom, file[DS1], calc_word::plus16(file[IY], i));
+    let b = mach_memory::load(
         false,
         ram,
         rom,
-        registers::base(file, seg),
-        word::plus16(file[IX], i),
+        mach_registers::base(file, seg),
+        calc_word::plus16(file[IX], i),
     );
     Bytes {
         to: a.value,
         from: b.value,
-        bus: tally::both(a.bus, b.bus),
+        bus: mach_tally::both(a.bus, b.bus),
     }
 }
 
@@ -73,17 +72,23 @@ fn link(
     ensures { λ r. ⌜ Fills Chain (sheet.link way storing seg i c) file ram rom (r .chain) (r .bus) 3 ⌝ }
 {
     let x = read_both(file, ram, rom, seg, i);
-    let d = decimal::digits(way, x.to, x.from, c.cy);
+    let d = calc_decimal::digits(way, x.to, x.from, c.cy);
     let chain = Chain {
         cy: d.cy,
         zero: c.zero & (d.value == 0),
     };
     let bus = x.bus;
     if stores(storing) {
-        let n = memory::store(false, ram, file[DS1], word::plus16(file[IY], i), d.value);
+        let n = mach_memory::store(
+            false,
+            ram,
+            file[DS1],
+            calc_word::plus16(file[IY], i),
+            d.value,
+        );
         return Linked {
             chain,
-            bus: tally::both(bus, n),
+            bus: mach_tally::both(bus, n),
         };
     }
     Linked { chain, bus }
@@ -105,12 +110,12 @@ fn chained(
     let mut i: u16 = 0;
     let mut cy = false;
     let mut zero = true;
-    let mut t = tally::none();
+    let mut t = mach_tally::none();
     while i < last {
         let l = link(file, ram, rom, way, storing, seg, i, Chain { cy, zero });
         cy = l.chain.cy;
         zero = l.chain.zero;
-        t = tally::both(t, l.bus);
+        t = mach_tally::both(t, l.bus);
         i = i + 1;
     }
     Linked {
@@ -123,8 +128,8 @@ fn chained(
 fn string_psw(c: Chain, psw: u16) -> u16
     ensures { λ r. ⌜ r ≡ settled keeps (column (columns unknown (becomes (c .cy)) unknown unknown unknown (becomes (c .zero)))) psw ⌝ }
 {
-    let f = flags::unpack(psw);
-    psw::affect(f.ac, c.cy, f.v, f.p, f.s, c.zero, psw)
+    let f = calc_flags::unpack(psw);
+    calc_psw::affect(f.ac, c.cy, f.v, f.p, f.s, c.zero, psw)
 }
 
 // ADD4S, SUB4S or CMP4S.
@@ -147,29 +152,29 @@ fn string(
 fn rol4(file: &mut [u16; 14], ram: &mut [u8], rom: &[u8], to: Place) -> Bus
     ensures { λ r. ⌜ Does (sheet.rol4 to) file ram rom r 4 ⌝ }
 {
-    let al = registers::reg(false, file, 0);
-    let spot = operand::locate(file, to);
-    let x = operand::fetch(false, file, ram, rom, spot);
-    let y = decimal::rol4(x.value, al);
-    let b = operand::deposit(false, file, ram, rom, spot, y);
-    registers::set_reg(false, file, 0, decimal::rol4_al(x.value, al));
-    tally::both(x.bus, b)
+    let al = mach_registers::reg(false, file, 0);
+    let spot = mach_operand::locate(file, to);
+    let x = mach_operand::fetch(false, file, ram, rom, spot);
+    let y = calc_decimal::rol4(x.value, al);
+    let b = mach_operand::deposit(false, file, ram, rom, spot, y);
+    mach_registers::set_reg(false, file, 0, calc_decimal::rol4_al(x.value, al));
+    mach_tally::both(x.bus, b)
 }
 
 fn ror4(file: &mut [u16; 14], ram: &mut [u8], rom: &[u8], to: Place) -> Bus
     ensures { λ r. ⌜ Does (sheet.ror4 to) file ram rom r 4 ⌝ }
 {
-    let al = registers::reg(false, file, 0);
-    let spot = operand::locate(file, to);
-    let x = operand::fetch(false, file, ram, rom, spot);
-    let y = decimal::ror4(x.value, al);
-    let b = operand::deposit(false, file, ram, rom, spot, y);
-    registers::set_reg(false, file, 0, decimal::ror4_al(x.value, al));
-    tally::both(x.bus, b)
+    let al = mach_registers::reg(false, file, 0);
+    let spot = mach_operand::locate(file, to);
+    let x = mach_operand::fetch(false, file, ram, rom, spot);
+    let y = calc_decimal::ror4(x.value, al);
+    let b = mach_operand::deposit(false, file, ram, rom, spot, y);
+    mach_registers::set_reg(false, file, 0, calc_decimal::ror4_al(x.value, al));
+    mach_tally::both(x.bus, b)
 }
 
 pub fn decimal(file: &mut [u16; 14], ram: &mut [u8], rom: &[u8], i: Decimal) -> Bus
-    ensures { λ r. ⌜ Does (tree.decimal i) file ram rom r 384 ⌝ }
+    ensures { λ r. ⌜ Does (sheet.decimal i) file ram rom r 384 ⌝ }
 {
     match i {
         Decimal::Add4s { seg } => string(file, ram, rom, Way::Addition, Storing::Stored, seg),

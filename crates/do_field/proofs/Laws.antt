@@ -17,8 +17,8 @@ use Rattle.sheet.specs.Handler.{nothing, _⊕_}
 use Rattle.sheet.specs.Fields.{replaced, fieldOf, lengthOf, advance, insertInto, firstPart, secondPart, ins, window, ext}
 use Rattle.sheet.specs.Contract.{OnFile, OnMemory}
 use Rattle.sheet.proofs.Lifted.{file-seq, file-pure, file-registers, file-set, memory-seq, memory-free, memory-last, memory-at-most, memory-true, memory-false, on-memory}
-use Rattle.memory.specs.Accesses.{Loads, Stores}
-use Rattle.registers.proofs.Laws.{file-reg}
+use Rattle.mach_memory.specs.Accesses.{Loads, Stores}
+use Rattle.mach_registers.proofs.Laws.{file-reg}
 
 module _ (f : List ℕ) (l : Length) where
   pub code-in-register : (n v : ℕ) → l ≡ InRegister n → v ≡ readReg false (fileOf f) n → OnFile ℕ (lengthOf l) f (v % 16 + 1) f

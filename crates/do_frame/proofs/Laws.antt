@@ -18,8 +18,8 @@ use Rattle.sheet.specs.Stack.{frame, frames, prepare, dispose}
 use Rattle.sheet.specs.Contract.{OnMemory}
 use Rattle.sheet.proofs.Lifted.{file-seq, file-pure, file-registers, file-set, memory-seq, memory-free, memory-last, on-memory}
 use Rattle.sheet.proofs.Loop.{Goes, goes-none, goes-more, goes-end}
-use Rattle.memory.specs.Accesses.{Loads}
-use Rattle.tally.specs.Sums.{Free, Joins}
+use Rattle.mach_memory.specs.Accesses.{Loads}
+use Rattle.mach_tally.specs.Sums.{Free, Joins}
 
 pub pointer-is : (f g ram ram′ rom : List ℕ) (bp ss v : ℕ) (n m : Bus) → bp ≡ sub16 (getD f BP 0) 2 → ss ≡ getD f SS 0 → Loads true ram rom ss bp v n
     → OnMemory Unit (push v) (set f BP bp) ram rom tt g ram′ m 2 → OnMemory Unit (frame 0 tt) f ram rom tt g ram′ (n ⊕ m) 4

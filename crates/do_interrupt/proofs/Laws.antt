@@ -22,8 +22,8 @@ use Rattle.sheet.specs.Traps.{pop, trap, untrapped}
 use Rattle.sheet.specs.Interrupts.{brk, trapIf, brkv, reti, outside, chkind}
 use Rattle.sheet.specs.Contract.{OnMemory}
 use Rattle.sheet.proofs.Lifted.{file-seq, file-pure, file-set, file-flag, file-flags, memory-seq, memory-free, memory-last, memory-true, memory-false, on-memory}
-use Rattle.registers.proofs.Laws.{file-reg}
-use Rattle.signed.proofs.ReadBack.{read-pos, read-negsuc}
+use Rattle.mach_registers.proofs.Laws.{file-reg}
+use Rattle.calc_signed.proofs.ReadBack.{read-pos, read-negsuc}
 
 -- ---- signed numbers in their order
 

@@ -1,23 +1,23 @@
 // BRK, BRKV, RETI, CHKIND.
-use registers::PC;
-use registers::PS;
-use registers::PSW;
+use mach_registers::PC;
+use mach_registers::PS;
+use mach_registers::PSW;
+use mach_stack::Worked;
 use sheet::Address;
 use sheet::Bus;
 use sheet::Interrupt;
-use traps::Worked;
 ghost use mathlib.Core.Path.{_≡_};
 ghost use mathlib.Core.Bool.{Bool};
 ghost use lib.Signed.{ltZ};
 ghost use Rattle.sheet.specs.Width.{signedOf};
 ghost use Rattle.sheet.specs.Interrupts as tree;
 ghost use Rattle.sheet.specs.Traps.{untrapped};
-ghost use Rattle.tally.specs.Lent.{Gives, Takes};
+ghost use Rattle.mach_tally.specs.Lent.{Gives, Takes};
 
 fn brk(file: &mut [u16; 14], ram: &mut [u8], rom: &[u8], v: u8) -> Worked
     ensures { λ r. ⌜ Gives Bool (tree.brk v) file ram rom (r .trapped) (r .bus) 8 ⌝ }
 {
-    let b = traps::trap(file, ram, rom, v);
+    let b = mach_stack::trap(file, ram, rom, v);
     Worked {
         trapped: true,
         bus: b,
@@ -32,29 +32,29 @@ fn trap_if(file: &mut [u16; 14], ram: &mut [u8], rom: &[u8], b: bool, v: u8) -> 
     }
     Worked {
         trapped: false,
-        bus: tally::none(),
+        bus: mach_tally::none(),
     }
 }
 
 fn brkv(file: &mut [u16; 14], ram: &mut [u8], rom: &[u8]) -> Worked
     ensures { λ r. ⌜ Gives Bool tree.brkv file ram rom (r .trapped) (r .bus) 8 ⌝ }
 {
-    let b = flags::v(file[PSW]);
+    let b = calc_flags::v(file[PSW]);
     trap_if(file, ram, rom, b, 4)
 }
 
 fn reti(file: &mut [u16; 14], ram: &[u8], rom: &[u8]) -> Worked
     ensures { λ r. ⌜ Takes Bool (untrapped tree.reti) file ram rom (r .trapped) (r .bus) 6 ⌝ }
 {
-    let pc = traps::pop(file, ram, rom);
-    let ps = traps::pop(file, ram, rom);
-    let x = traps::pop(file, ram, rom);
+    let pc = mach_stack::pop(file, ram, rom);
+    let ps = mach_stack::pop(file, ram, rom);
+    let x = mach_stack::pop(file, ram, rom);
     file[PC] = pc.value;
     file[PS] = ps.value;
-    file[PSW] = psw::restore(x.value);
+    file[PSW] = calc_psw::restore(x.value);
     Worked {
         trapped: false,
-        bus: tally::three(pc.bus, ps.bus, x.bus),
+        bus: mach_tally::three(pc.bus, ps.bus, x.bus),
     }
 }
 
@@ -62,7 +62,7 @@ fn reti(file: &mut [u16; 14], ram: &[u8], rom: &[u8]) -> Worked
 fn less(a: u16, b: u16) -> bool
     ensures { λ r. ⌜ r ≡ ltZ (signedOf 32768 a) (signedOf 32768 b) ⌝ }
 {
-    word::plus16(a, 32768) < word::plus16(b, 32768)
+    calc_word::plus16(a, 32768) < calc_word::plus16(b, 32768)
 }
 
 fn outside(v: u16, low: u16, high: u16) -> bool
@@ -74,13 +74,13 @@ fn outside(v: u16, low: u16, high: u16) -> bool
 fn chkind(file: &mut [u16; 14], ram: &mut [u8], rom: &[u8], reg: u8, from: Address) -> Worked
     ensures { λ r. ⌜ Gives Bool (tree.chkind reg from) file ram rom (r .trapped) (r .bus) 12 ⌝ }
 {
-    let p = operand::pair_at(file, ram, rom, from);
-    let v = registers::reg(true, file, reg);
+    let p = mach_operand::pair_at(file, ram, rom, from);
+    let v = mach_registers::reg(true, file, reg);
     let b = outside(v, p.low, p.high);
     let t = trap_if(file, ram, rom, b, 5);
     Worked {
         trapped: t.trapped,
-        bus: tally::both(p.bus, t.bus),
+        bus: mach_tally::both(p.bus, t.bus),
     }
 }
 

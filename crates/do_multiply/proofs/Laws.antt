@@ -23,13 +23,12 @@ use Rattle.sheet.specs.Act.{Act, _>>=_, registers}
 use Rattle.sheet.specs.Operand.{regValue, setReg, valueAt}
 use Rattle.sheet.specs.Handler.{nothing, _⊕_}
 use Rattle.sheet.specs.Traps.{trap, untrapped}
-use Rattle.sheet.specs.Multiply.{allUnknown, bitsOf, divided, dividend, mulBy, multiplied, productColumn, quoted, setProduct, setQuotient, signedProduct, signedQuotient, spanOf, stands, unsignedQuotient}
-use Rattle.sheet.specs.Execute.{multiply}
+use Rattle.sheet.specs.Multiply.{allUnknown, bitsOf, divided, dividend, mulBy, multiplied, productColumn, quoted, setProduct, setQuotient, signedProduct, signedQuotient, spanOf, stands, unsignedQuotient, multiply}
 use Rattle.sheet.specs.Contract.{OnFile, OnMemory}
 use Rattle.sheet.proofs.Lifted.{file-seq, file-pure, file-registers, file-set, file-flags, memory-seq, memory-free, memory-last, memory-at-most, on-memory}
-use Rattle.registers.proofs.Laws.{file-reg}
-use Rattle.word.proofs.WidthLaws.{wrap-lt}
-use Rattle.divide.proofs.QuotientLaws.{unsigned-quotient-exact}
+use Rattle.mach_registers.proofs.Laws.{file-reg}
+use Rattle.calc_word.proofs.WidthLaws.{wrap-lt}
+use Rattle.calc_divide.proofs.QuotientLaws.{unsigned-quotient-exact}
 use Rattle.do_multiply.specs.Within.{Held, Within}
 
 -- ---- products

@@ -1,20 +1,19 @@
 // MULU, MUL, DIVU, DIV.
-use registers::AW;
-use registers::DW;
-use registers::PSW;
+use mach_registers::AW;
+use mach_registers::DW;
+use mach_registers::PSW;
+use mach_stack::Worked;
 use sheet::Bus;
 use sheet::Divided;
 use sheet::Multiply;
 use sheet::Place;
 use sheet::Product;
-use traps::Worked;
 ghost use mathlib.Core.Path.{_≡_};
 ghost use mathlib.Core.Bool.{Bool};
 ghost use Rattle.sheet.specs.Registers.{fileOf};
 ghost use Rattle.sheet.specs.Multiply as sheet;
-ghost use Rattle.sheet.specs.Execute as tree;
 ghost use Rattle.sheet.specs.Contract.{OnFile};
-ghost use Rattle.tally.specs.Lent.{Gives, Takes};
+ghost use Rattle.mach_tally.specs.Lent.{Gives, Takes};
 ghost use Rattle.do_multiply.specs.Within.{Held, Within};
 
 // A product of bytes goes to AW, one of words to DW and AW.
@@ -30,16 +29,16 @@ fn set_product(file: &mut [u16; 14], word: bool, x: u32)
 fn multiplied(file: &mut [u16; 14], word: bool, p: Product)
     ensures { λ _. ⌜ OnFile Unit (sheet.multiplied word p) (now (file .entry)) tt (now (file .exit)) ⌝ }
 {
-    file[PSW] = multiply::product_psw(p, file[PSW]);
+    file[PSW] = calc_multiply::product_psw(p, file[PSW]);
     set_product(file, word, p.bits);
 }
 
 fn mulu(file: &mut [u16; 14], ram: &[u8], rom: &[u8], word: bool, by: Place) -> Bus
     ensures { λ r. ⌜ Takes Unit (sheet.mulu word by) file ram rom tt r 2 ⌝ }
 {
-    let b = operand::value_at(word, file, ram, rom, by);
-    let a = registers::reg(word, file, 0);
-    let p = multiply::unsigned_product(word, a, b.value);
+    let b = mach_operand::value_at(word, file, ram, rom, by);
+    let a = mach_registers::reg(word, file, 0);
+    let p = calc_multiply::unsigned_product(word, a, b.value);
     multiplied(file, word, p);
     b.bus
 }
@@ -47,9 +46,9 @@ fn mulu(file: &mut [u16; 14], ram: &[u8], rom: &[u8], word: bool, by: Place) -> 
 fn mul(file: &mut [u16; 14], ram: &[u8], rom: &[u8], word: bool, by: Place) -> Bus
     ensures { λ r. ⌜ Takes Unit (sheet.mul word by) file ram rom tt r 2 ⌝ }
 {
-    let b = operand::value_at(word, file, ram, rom, by);
-    let a = registers::reg(word, file, 0);
-    let p = multiply::signed_product(word, a, b.value);
+    let b = mach_operand::value_at(word, file, ram, rom, by);
+    let a = mach_registers::reg(word, file, 0);
+    let p = calc_multiply::signed_product(word, a, b.value);
     multiplied(file, word, p);
     b.bus
 }
@@ -58,10 +57,10 @@ fn mul(file: &mut [u16; 14], ram: &[u8], rom: &[u8], word: bool, by: Place) -> B
 fn mul_by(file: &mut [u16; 14], ram: &[u8], rom: &[u8], reg: u8, from: Place, by: u16) -> Bus
     ensures { λ r. ⌜ Takes Unit (sheet.mulBy reg from by) file ram rom tt r 2 ⌝ }
 {
-    let a = operand::value_at(true, file, ram, rom, from);
-    let p = multiply::signed_product(true, a.value, by);
-    file[PSW] = multiply::product_psw(p, file[PSW]);
-    registers::set_reg(true, file, reg, (p.bits % 65536) as u16);
+    let a = mach_operand::value_at(true, file, ram, rom, from);
+    let p = calc_multiply::signed_product(true, a.value, by);
+    file[PSW] = calc_multiply::product_psw(p, file[PSW]);
+    mach_registers::set_reg(true, file, reg, (p.bits % 65536) as u16);
     a.bus
 }
 
@@ -69,9 +68,9 @@ fn mul_by(file: &mut [u16; 14], ram: &[u8], rom: &[u8], reg: u8, from: Place, by
 fn dividend(word: bool, file: &[u16; 14]) -> u32
     ensures { λ r. ⌜ r ≡ sheet.dividend word (fileOf (now (file .entry))) ⌝ }
 {
-    let low = word::word(file[AW]) as u32;
+    let low = calc_word::word(file[AW]) as u32;
     if word {
-        return word::word(file[DW]) as u32 * 65536 + low;
+        return calc_word::word(file[DW]) as u32 * 65536 + low;
     }
     low
 }
@@ -100,15 +99,15 @@ fn divided(file: &mut [u16; 14], ram: &mut [u8], rom: &[u8], word: bool, d: Divi
             remainder,
         } => {
             set_quotient(file, word, quotient, remainder);
-            file[PSW] = psw::restore(file[PSW]);
+            file[PSW] = calc_psw::restore(file[PSW]);
             Worked {
                 trapped: false,
-                bus: tally::none(),
+                bus: mach_tally::none(),
             }
         }
         Divided::Trap => {
-            let b = traps::trap(file, ram, rom, 0);
-            file[PSW] = psw::restore(file[PSW]);
+            let b = mach_stack::trap(file, ram, rom, 0);
+            file[PSW] = calc_psw::restore(file[PSW]);
             Worked {
                 trapped: true,
                 bus: b,
@@ -120,31 +119,31 @@ fn divided(file: &mut [u16; 14], ram: &mut [u8], rom: &[u8], word: bool, d: Divi
 fn divu(file: &mut [u16; 14], ram: &mut [u8], rom: &[u8], word: bool, by: Place) -> Worked
     ensures { λ r. ⌜ Gives Bool (sheet.divu word by) file ram rom (r .trapped) (r .bus) 10 ⌝ }
 {
-    let b = operand::value_at(word, file, ram, rom, by);
+    let b = mach_operand::value_at(word, file, ram, rom, by);
     let a = dividend(word, file);
-    let d = divide::unsigned_quotient(word, a, b.value);
+    let d = calc_divide::unsigned_quotient(word, a, b.value);
     let w = divided(file, ram, rom, word, d);
     Worked {
         trapped: w.trapped,
-        bus: tally::both(b.bus, w.bus),
+        bus: mach_tally::both(b.bus, w.bus),
     }
 }
 
 fn div(file: &mut [u16; 14], ram: &mut [u8], rom: &[u8], word: bool, by: Place) -> Worked
     ensures { λ r. ⌜ Gives Bool (sheet.div word by) file ram rom (r .trapped) (r .bus) 10 ⌝ }
 {
-    let b = operand::value_at(word, file, ram, rom, by);
+    let b = mach_operand::value_at(word, file, ram, rom, by);
     let a = dividend(word, file);
-    let d = divide::signed_quotient(word, a, b.value);
+    let d = calc_divide::signed_quotient(word, a, b.value);
     let w = divided(file, ram, rom, word, d);
     Worked {
         trapped: w.trapped,
-        bus: tally::both(b.bus, w.bus),
+        bus: mach_tally::both(b.bus, w.bus),
     }
 }
 
 pub fn multiply(file: &mut [u16; 14], ram: &mut [u8], rom: &[u8], i: Multiply) -> Worked
-    ensures { λ r. ⌜ Gives Bool (tree.multiply i) file ram rom (r .trapped) (r .bus) 10 ⌝ }
+    ensures { λ r. ⌜ Gives Bool (sheet.multiply i) file ram rom (r .trapped) (r .bus) 10 ⌝ }
 {
     match i {
         Multiply::Mulu { word, by } => Worked {

@@ -18,9 +18,9 @@ use Rattle.sheet.specs.Ports.{portNumber, ports}
 use Rattle.sheet.specs.Contract.{Ends, OnFile}
 use Rattle.sheet.proofs.Rules.{seq-free, seq-last, seq-stops, seq-then-stops}
 use Rattle.sheet.proofs.Lifted.{file-seq, file-pure, file-registers}
-use Rattle.registers.proofs.Laws.{file-reg}
-use Rattle.ports.specs.Accesses.{Gives, Takes, OnPorts}
-use Rattle.ports.proofs.Told.{ports-end, ports-stop}
+use Rattle.mach_registers.proofs.Laws.{file-reg}
+use Rattle.mach_ports.specs.Accesses.{Gives, Takes, OnPorts}
+use Rattle.mach_ports.proofs.Told.{ports-end, ports-stop}
 
 pub port-in-dw : (f : List ℕ) (p : Port) → p ≡ InDw → OnFile ℕ (portNumber p) f (getD f DW 0) f
 unfolding portNumber

@@ -1,6 +1,6 @@
 // IN and OUT.
-use ports::Ported;
-use registers::DW;
+use mach_ports::Ported;
+use mach_registers::DW;
 use sheet::Io;
 use sheet::Port;
 use sheet::Progress;
@@ -9,7 +9,7 @@ ghost use Prim.Native.Nat.{ℕ};
 ghost use Rattle.sheet.specs.Ports as tree;
 ghost use Rattle.sheet.specs.declared.Io.the-variants as io;
 ghost use Rattle.sheet.specs.Contract.{OnFile};
-ghost use Rattle.ports.specs.Accesses.{OnPorts};
+ghost use Rattle.mach_ports.specs.Accesses.{OnPorts};
 
 fn port_number(file: &[u16; 14], port: Port) -> u16
     ensures { λ r. ⌜ OnFile ℕ (tree.portNumber port) (now (file .entry)) r (now (file .entry)) ⌝ }
@@ -33,11 +33,11 @@ fn input(
     ensures { λ r. ⌜ OnPorts (tree.ports (io.In word port)) (now (file .entry)) (now (ram .entry)) (now (rom .entry)) (now (tape .entry)) (now (log .entry)) q (r .number) (now (file .exit)) (now (ram .entry)) (now (log .exit)) (r .progress) (r .bus) 2 ⌝ }
 {
     let n = port_number(file, port);
-    let t = ports::take(word, tape, log, q, n);
+    let t = mach_ports::take(word, tape, log, q, n);
     let p = t.progress;
     let b = t.bus;
     if t.number == 0 {
-        registers::set_reg(word, file, 0, t.value);
+        mach_registers::set_reg(word, file, 0, t.value);
     }
     Ported {
         number: t.number,
@@ -59,8 +59,8 @@ fn output(
     ensures { λ r. ⌜ OnPorts (tree.ports (io.Out word port)) (now (file .entry)) (now (ram .entry)) (now (rom .entry)) (now (tape .entry)) (now (log .entry)) q (r .number) (now (file .entry)) (now (ram .entry)) (now (log .exit)) (r .progress) (r .bus) 2 ⌝ }
 {
     let n = port_number(file, port);
-    let v = registers::reg(word, file, 0);
-    ports::give(word, log, q, n, v)
+    let v = mach_registers::reg(word, file, 0);
+    mach_ports::give(word, log, q, n, v)
 }
 
 pub fn access(

@@ -21,9 +21,9 @@ use Rattle.sheet.specs.Arithmetic.{Result, finish}
 use Rattle.sheet.specs.Shift.{carryIn, shiftOne, shiftMany, shiftBy, shift}
 use Rattle.sheet.specs.Contract.{OnFile, OnMemory, flagged}
 use Rattle.sheet.proofs.Lifted.{memory-seq, memory-free}
-use Rattle.psw.proofs.Results.{file-affect, value-is}
-use Rattle.shift.specs.Carry.{carried}
-use Rattle.shift.proofs.CarryLaws.{carry-ends}
+use Rattle.calc_psw.proofs.Results.{file-affect, value-is}
+use Rattle.calc_shift.specs.Carry.{carried}
+use Rattle.calc_shift.proofs.CarryLaws.{carry-ends}
 
 carry-file : (k : Shift) (f : List ℕ) → OnFile Bool (carryIn k) f (carried k (flagOf (getD f PSW 0) CY)) f
 carry-file k f = record { at = λ s ram rom tape log. carry-ends k _ }

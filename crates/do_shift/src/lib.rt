@@ -1,5 +1,5 @@
 // Shifts and rotates of an operand.
-use registers::PSW;
+use mach_registers::PSW;
 use sheet::Amount;
 use sheet::Bus;
 use sheet::Place;
@@ -8,7 +8,7 @@ use sheet::Shift;
 use sheet::Spot;
 ghost use Rattle.sheet.specs.declared.Places.the-variants.{One, Counted};
 ghost use Rattle.sheet.specs.Shift as tree;
-ghost use Rattle.tally.specs.Lent.{Does};
+ghost use Rattle.mach_tally.specs.Lent.{Does};
 
 // The forms whose count is the fixed 1.
 fn by_one(
@@ -21,13 +21,13 @@ fn by_one(
 ) -> Bus
     ensures { λ r. ⌜ Does (tree.shift kind word to One) file ram rom r 4 ⌝ }
 {
-    let spot = operand::locate(file, to);
-    let x = operand::fetch(word, file, ram, rom, spot);
-    let cy = shift::carry_in(kind, file[PSW]);
-    let y = shift::shift_one(kind, word, x.value, cy, file[PSW]);
+    let spot = mach_operand::locate(file, to);
+    let x = mach_operand::fetch(word, file, ram, rom, spot);
+    let cy = calc_shift::carry_in(kind, file[PSW]);
+    let y = calc_shift::shift_one(kind, word, x.value, cy, file[PSW]);
     file[PSW] = y.psw;
-    let b = operand::deposit(word, file, ram, rom, spot, y.value);
-    tally::both(x.bus, b)
+    let b = mach_operand::deposit(word, file, ram, rom, spot, y.value);
+    mach_tally::both(x.bus, b)
 }
 
 // x by a count; 0 changes no flag, and x is written all the same.
@@ -44,12 +44,12 @@ fn by_count(
     ensures { λ r. ⌜ Does (tree.shiftBy kind word spot x n) file ram rom r 2 ⌝ }
 {
     if n < 1 {
-        return operand::deposit(word, file, ram, rom, spot, x);
+        return mach_operand::deposit(word, file, ram, rom, spot, x);
     }
-    let cy = shift::carry_in(kind, file[PSW]);
-    let y = shift::shift_many(kind, word, n, x, cy, file[PSW]);
+    let cy = calc_shift::carry_in(kind, file[PSW]);
+    let y = calc_shift::shift_many(kind, word, n, x, cy, file[PSW]);
     file[PSW] = y.psw;
-    operand::deposit(word, file, ram, rom, spot, y.value)
+    mach_operand::deposit(word, file, ram, rom, spot, y.value)
 }
 
 fn by_amount(
@@ -63,11 +63,11 @@ fn by_amount(
 ) -> Bus
     ensures { λ r. ⌜ Does (tree.shift kind word to (Counted count)) file ram rom r 4 ⌝ }
 {
-    let n = operand::amount(file, count);
-    let spot = operand::locate(file, to);
-    let x = operand::fetch(word, file, ram, rom, spot);
+    let n = mach_operand::amount(file, count);
+    let spot = mach_operand::locate(file, to);
+    let x = mach_operand::fetch(word, file, ram, rom, spot);
     let b = by_count(file, ram, rom, kind, word, spot, x.value, n);
-    tally::both(x.bus, b)
+    mach_tally::both(x.bus, b)
 }
 
 pub fn shift(

@@ -19,8 +19,8 @@ use Rattle.sheet.specs.Traps.{push, pop, popInto, pushPsw}
 use Rattle.sheet.specs.Stack.{pushRegister, pushPlace, pushSegment, popPlace, popSegment, popPsw}
 use Rattle.sheet.specs.Contract.{OnFile, OnMemory}
 use Rattle.sheet.proofs.Lifted.{file-registers, file-set, file-flags, file-psw, memory-seq, memory-free, memory-last}
-use Rattle.word.proofs.WidthLaws.{wrap-id}
-use Rattle.memory.specs.Accesses.{Stores}
+use Rattle.calc_word.proofs.WidthLaws.{wrap-id}
+use Rattle.mach_memory.specs.Accesses.{Stores}
 
 module _ (f g ram ram′ rom : List ℕ) where
   pub push-register-is : (n x ss sp v : ℕ) (m : Bus) → x ≡ sub16 (getD f SP 0) 2 → ss ≡ getD (set f SP x) SS 0 → sp ≡ getD (set f SP x) SP 0 → v ≡ readReg true (fileOf (set f SP x)) n

@@ -18,17 +18,17 @@ use Rattle.sheet.specs.Reading.{known}
 use Rattle.sheet.specs.FirstByte.{instruction}
 use Rattle.sheet.specs.Contract.{Refuses, stops, exec, seen, report, reportOf}
 use Rattle.sheet.specs.Step.{refusal, source, codeByte, starting, stepping, decoded, awake, stepBy, step, stepReport, instructionIn}
-use Rattle.answers.specs.declared.Decoded.{Decoded}
-use Rattle.answers.specs.declared.Decoded.the-variants.{Known, Unknown}
-use Rattle.answers.specs.Answer.{Decodes}
-use Rattle.answers.proofs.DecodesLaws.{known-reads, unknown-refuses}
-use Rattle.tally.specs.Sums.{Free}
-use Rattle.tally.proofs.Bounds.{within-none}
-use Rattle.calls.specs.Calls.{checkNumber}
-use Rattle.calls.proofs.Laws.{passed, checked-passed, checked-refused}
-use Rattle.stepper.specs.Proceeds.{Proceeds}
-use Rattle.calls.specs.declared.Answer.{Answer}
-use Rattle.stepper.specs.declared.Stepped.{Stepped}
+use Rattle.code_answer.specs.declared.Decoded.{Decoded}
+use Rattle.code_answer.specs.declared.Decoded.the-variants.{Known, Unknown}
+use Rattle.code_answer.specs.Answer.{Decodes}
+use Rattle.code_answer.proofs.DecodesLaws.{known-reads, unknown-refuses}
+use Rattle.mach_tally.specs.Sums.{Free}
+use Rattle.mach_tally.proofs.Bounds.{within-none}
+use Rattle.step_calls.specs.Calls.{checkNumber}
+use Rattle.step_calls.proofs.Laws.{passed, checked-passed, checked-refused}
+use Rattle.step_one.specs.Proceeds.{Proceeds}
+use Rattle.step_calls.specs.declared.Answer.{Answer}
+use Rattle.step_one.specs.declared.Stepped.{Stepped}
 use Rattle.engine.specs.declared.Advanced.{Advanced}
 use Rattle.engine.specs.Steps.{refusedAt, advancedBy, answerOf, Carries, Advances, Moves, Steps}
 

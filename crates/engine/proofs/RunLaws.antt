@@ -19,11 +19,11 @@ use Rattle.sheet.proofs.Rules.{no-first, no-last, ⊕-assoc}
 use Rattle.sheet.proofs.Lent.{Lent, Sound}
 use Rattle.sheet.proofs.StepLaws.{step-leaves}
 use Rattle.sheet.proofs.MarkLaws.{step-unmixed}
-use Rattle.tally.specs.Sums.{Free, Joins}
-use Rattle.tally.specs.Bounds.{Within}
-use Rattle.tally.proofs.Bounds.{within-none, within-more, within-both}
-use Rattle.calls.specs.Calls.{checkNumber}
-use Rattle.calls.proofs.Laws.{passed, checked-passed, checked-refused}
+use Rattle.mach_tally.specs.Sums.{Free, Joins}
+use Rattle.mach_tally.specs.Bounds.{Within}
+use Rattle.mach_tally.proofs.Bounds.{within-none, within-more, within-both}
+use Rattle.step_calls.specs.Calls.{checkNumber}
+use Rattle.step_calls.proofs.Laws.{passed, checked-passed, checked-refused}
 use Rattle.engine.specs.Steps.{Advances}
 use Rattle.engine.specs.Runs.{Runs}
 

@@ -12,11 +12,11 @@ use Rattle.sheet.specs.World.{World, world, stateOf}
 use Rattle.sheet.specs.Handler.{kept, nothing}
 use Rattle.sheet.specs.Contract.{Seen, stops, ends, seen, report, reportOf}
 use Rattle.sheet.specs.Step.{awake, stepReport}
-use Rattle.tally.specs.Bounds.{Within}
-use Rattle.calls.specs.declared.Answer.{Answer}
+use Rattle.mach_tally.specs.Bounds.{Within}
+use Rattle.step_calls.specs.declared.Answer.{Answer}
 use Rattle.sheet.specs.declared.Instr.{Instr}
-use Rattle.stepper.specs.Proceeds.{Proceeds}
-use Rattle.stepper.specs.declared.Stepped.{Stepped}
+use Rattle.step_one.specs.Proceeds.{Proceeds}
+use Rattle.step_one.specs.declared.Stepped.{Stepped}
 use Rattle.engine.specs.declared.Advanced.{Advanced}
 
 abbrev pub refusedAt : Marks → Progress → ℕ → Advanced

@@ -1,22 +1,22 @@
 // The public calls step and run, and what both are once the checks that every call makes are passed.
-use answers::Decoded;
-use calls::Answer;
-use registers::PC;
-use registers::PS;
+use code_answer::Decoded;
+use mach_registers::PC;
+use mach_registers::PS;
 use sheet::Bus;
 use sheet::Instr;
 use sheet::Marks;
 use sheet::Progress;
 use sheet::State;
-use stepper::Stepped;
+use step_calls::Answer;
+use step_one::Stepped;
 ghost use mathlib.Core.Path.{_≡_};
 ghost use Rattle.sheet.specs.World.{world, stateOf};
-ghost use Rattle.calls.specs.Calls.{checkNumber};
+ghost use Rattle.step_calls.specs.Calls.{checkNumber};
 ghost use Rattle.engine.specs.Steps.{refusedAt, advancedBy, answerOf, Carries, Advances, Moves, Steps};
 ghost use Rattle.engine.specs.Runs.{Runs};
 
 // What comes of a step: done, or the number of its refusal, after which nothing has changed; the marks, the places, the bus.
-pub struct Advanced {
+struct Advanced {
     pub done: bool,
     pub number: u8,
     pub marks: Marks,
@@ -41,7 +41,7 @@ fn refuse(marks: Marks, q: Progress, number: u8) -> Advanced
         number,
         marks,
         progress: q,
-        bus: tally::none(),
+        bus: mach_tally::none(),
     }
 }
 
@@ -74,7 +74,7 @@ fn carry_out(
 ) -> Advanced
     ensures { λ r. ⌜ Carries i size (now (file .entry)) (now (ram .entry)) (now (rom .entry)) (now (tape .entry)) (now (log .entry)) marks q r (now (file .exit)) (now (ram .exit)) (now (log .exit)) ⌝ }
 {
-    shown(stepper::proceed(file, ram, rom, tape, log, marks, q, i, size))
+    shown(step_one::proceed(file, ram, rom, tape, log, marks, q, i, size))
 }
 
 // The instruction at PS:PC, of a machine that has passed the checks 1 and 2.
@@ -92,7 +92,7 @@ fn advance(
     if marks.halted {
         return refuse(marks, q, 8);
     }
-    match decode::decode(ram, rom, file[PS], file[PC]) {
+    match code_decode::decode(ram, rom, file[PS], file[PC]) {
         Decoded::Known { instr, size } => carry_out(
             file,
             ram,
@@ -151,12 +151,12 @@ fn move_on(s: State, ram: &mut [u8], rom: &[u8], tape: &[u8], log: &mut [u8]) ->
 pub fn step(s: State, ram: &mut [u8], rom: &[u8], tape: &[u8], log: &mut [u8]) -> Answer
     ensures { λ r. ⌜ Steps s (now (ram .entry)) (now (rom .entry)) (now (tape .entry)) (now (log .entry)) (r .number) (r .state) (now (ram .exit)) (now (log .exit)) (r .bus) ⌝ }
 {
-    let number = calls::check(s, ram, rom, tape, log);
+    let number = step_calls::check(s, ram, rom, tape, log);
     if number != 0 {
         return Answer {
             number: number,
             state: s,
-            bus: tally::none(),
+            bus: mach_tally::none(),
         };
     }
     move_on(s, ram, rom, tape, log)
@@ -171,7 +171,7 @@ fn go_on(s: State, ram: &mut [u8], rom: &[u8], tape: &[u8], log: &mut [u8], budg
     let mut marks = s.marks;
     let mut q = s.progress;
     let mut steps: u16 = 0;
-    let mut bus = tally::none();
+    let mut bus = mach_tally::none();
     while steps < budget {
         let a = advance(&mut file, ram, rom, tape, log, marks, q);
         if !a.done {
@@ -185,7 +185,7 @@ fn go_on(s: State, ram: &mut [u8], rom: &[u8], tape: &[u8], log: &mut [u8], budg
         }
         marks = a.marks;
         q = a.progress;
-        bus = tally::both(bus, a.bus);
+        bus = mach_tally::both(bus, a.bus);
         steps = steps + 1;
     }
     let state = state_of(file, marks, q);
@@ -201,13 +201,13 @@ fn go_on(s: State, ram: &mut [u8], rom: &[u8], tape: &[u8], log: &mut [u8], budg
 pub fn run(s: State, ram: &mut [u8], rom: &[u8], tape: &[u8], log: &mut [u8], budget: u16) -> Ran
     ensures { λ r. ⌜ Runs budget s (now (ram .entry)) (now (rom .entry)) (now (tape .entry)) (now (log .entry)) (r .number) (r .state) (now (ram .exit)) (now (log .exit)) (r .steps) (r .bus) ⌝ }
 {
-    let number = calls::check(s, ram, rom, tape, log);
+    let number = step_calls::check(s, ram, rom, tape, log);
     if number != 0 {
         return Ran {
             number,
             state: s,
             steps: 0,
-            bus: tally::none(),
+            bus: mach_tally::none(),
         };
     }
     go_on(s, ram, rom, tape, log, budget)

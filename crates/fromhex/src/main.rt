@@ -1,4 +1,4 @@
 // Reads Intel HEX into a ROM image.
 fn main() {
-    hexrun::from_hex();
+    hex_run::from_hex();
 }

@@ -10,9 +10,9 @@ use lib.ListN.{length, getD, drop, length-append, List·getD-append}
 use lib.Seq.{getD-at, drop-at}
 use lib.Dec.{ltb, eqb, lit≤}
 use borrow.Author.Tests.{lt-ltb, eq-eqb}
-use Rattle.laws.proofs.Bytes.{Bytes}
-use Rattle.laws.proofs.Table.{agree}
-use Rattle.text.specs.Text.{hex, hexDigit}
+use Rattle.base_laws.proofs.Bytes.{Bytes}
+use Rattle.base_laws.proofs.Table.{agree}
+use Rattle.base_text.specs.Text.{hex, hexDigit}
 use Rattle.hex_form.specs.Line.{all, sum, digit, digitAt, byte, size, offset, kind, ending, width, span, taken, written, formed, summed}
 use Rattle.hex_form.specs.Writing.{pairs, at, checksum, lineText, lineBytes}
 use Rattle.hex_form.proofs.Texts.{pairs-long, record-long}

@@ -12,7 +12,7 @@ use lib.Seq.{getD-set-other, set-comm}
 use lib.Dec.{leb, ltb, eqb}
 use borrow.Author.Tests.{leb-true, ne-eqb}
 use Rattle.sheet.specs.Width.{pick}
-use Rattle.laws.specs.Writes.{Writes}
+use Rattle.base_laws.specs.Writes.{Writes}
 use Rattle.hex_form.specs.Reading.{inside, Verdict, verdict, Store, store, storesOf, stored, applied, Reads}
 use Rattle.hex_form.specs.Writing.{hexText, WritesHex}
 use Rattle.hex_form.proofs.Stores.{applied-append}

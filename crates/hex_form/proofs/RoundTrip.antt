@@ -11,7 +11,7 @@ use lib.Seq.{take-suc, take-length, drop-cons, set-at, length-take-le}
 use lib.Dec.{leb, ltb, eqb, lit≤}
 use borrow.Author.Tests.{le-leb, lt-ltb, eq-eqb, eqb-false, leb-true, leb-false}
 use Rattle.sheet.specs.Width.{pick}
-use Rattle.laws.proofs.Bytes.{Bytes, bytes-drop}
+use Rattle.base_laws.proofs.Bytes.{Bytes, bytes-drop}
 use Rattle.hex_form.specs.Line.{all, byte, size, offset, kind, span, taken, written, formed, summed}
 use Rattle.hex_form.specs.Reading.{place, inside, landsIn, lands, fault, segmentAfter, Verdict, verdict, verdictFrom, verdictOf, Store, store, storeAt, firstStores, lineStores, storesFrom, storesOf, stored, applied, Reads}
 use Rattle.hex_form.specs.Writing.{lineText, lineBytes, dataText, segmentText, endText, segmentFor, turnText, chunkText, textFrom, hexText}

@@ -10,8 +10,8 @@ use lib.ListN.{length, take, drop, length-append, length-take}
 use lib.Dec.{leb}
 use borrow.Author.Tests.{le-leb, lt-leb, leb-true, leb-false}
 use Rattle.sheet.specs.Width.{pick}
-use Rattle.text.specs.Text.{hex}
-use Rattle.text.proofs.Texts.{hex-length}
+use Rattle.base_text.specs.Text.{hex}
+use Rattle.base_text.proofs.Texts.{hex-length}
 use Rattle.hex_form.specs.Writing.{pairs, checksum, lineText, lineBytes, dataText, segmentText, endText, segmentFor, turnText, chunkText, textFrom, hexText}
 
 pub pairs-long : (l : List ℕ) → length (pairs l) ≡ 2 * length l

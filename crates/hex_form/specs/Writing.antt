@@ -6,8 +6,8 @@ use mathlib.Core.List.{List, [], _∷_, _++_}
 use lib.ListN.{length, getD, take, drop}
 use lib.Dec.{leb}
 use Rattle.sheet.specs.Width.{pick}
-use Rattle.laws.specs.Writes.{Writes}
-use Rattle.text.specs.Text.{hex}
+use Rattle.base_laws.specs.Writes.{Writes}
+use Rattle.base_text.specs.Text.{hex}
 use Rattle.hex_form.specs.Line.{sum}
 
 -- the byte at a place

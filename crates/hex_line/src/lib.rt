@@ -5,7 +5,7 @@ ghost use lib.ListN.{getD};
 ghost use Rattle.hex_form.specs.Line.{all, sum, digit, digitAt, byte, size, offset, kind, ending, width, span, taken, formed, summed, written};
 
 // Past the end of the text every character is 0.
-pub fn char_at(s: &[u8], i: usize) -> u8
+fn char_at(s: &[u8], i: usize) -> u8
     ensures { λ r. ⌜ r ≡ getD (now (s .entry)) i 0 ⌝ }
 {
     if i < s.len() {
@@ -15,7 +15,7 @@ pub fn char_at(s: &[u8], i: usize) -> u8
 }
 
 // The value of a digit; 16 for any other character.
-pub fn value_of(c: u8) -> u8
+fn value_of(c: u8) -> u8
     ensures { λ r. ⌜ r ≡ digit c ⌝ }
 {
     if c < 48 {
@@ -68,7 +68,7 @@ pub fn kind_of(s: &[u8]) -> usize
 }
 
 // Whether the first k characters behind the colon are digits.
-pub fn digits_to(s: &[u8], k: usize) -> bool
+fn digits_to(s: &[u8], k: usize) -> bool
     ensures { λ r. ⌜ r ≡ all (digitAt (now (s .entry))) k ⌝ }
 {
     if k == 0 {
@@ -79,7 +79,7 @@ pub fn digits_to(s: &[u8], k: usize) -> bool
 }
 
 // The sum of the first k bytes, in a byte.
-pub fn sum_to(s: &[u8], k: usize) -> usize
+fn sum_to(s: &[u8], k: usize) -> usize
     requires { ⌜ k ≤ 300 ⌝ }
     ensures { λ r. ⌜ r ≡ sum (byte (now (s .entry))) k ⌝ }
 {
@@ -90,7 +90,7 @@ pub fn sum_to(s: &[u8], k: usize) -> usize
     (before + byte_at(s, k - 1)) % 256
 }
 
-pub fn ending_at(s: &[u8], i: usize) -> usize
+fn ending_at(s: &[u8], i: usize) -> usize
     requires { ⌜ i ≤ 1000 ⌝ }
     ensures { λ r. ⌜ r ≡ ending (now (s .entry)) i ⌝ }
 {
@@ -105,7 +105,7 @@ pub fn ending_at(s: &[u8], i: usize) -> usize
     0
 }
 
-pub fn width_of(s: &[u8]) -> usize
+fn width_of(s: &[u8]) -> usize
     ensures { λ r. ⌜ r ≡ width (now (s .entry)) ⌝ }
 {
     2 * size_of(s) + 11
@@ -119,7 +119,7 @@ pub fn span_of(s: &[u8]) -> usize
     w + ending_at(s, w)
 }
 
-pub fn is_taken(k: usize, o: usize, n: usize) -> bool
+fn is_taken(k: usize, o: usize, n: usize) -> bool
     ensures { λ r. ⌜ r ≡ taken k o n ⌝ }
 {
     if k == 0 {

@@ -7,11 +7,11 @@ use native.Mathlib.Omega.{arith}
 use lib.ListN.{length, getD, take, drop, set, length-append}
 use lib.Seq.{take-suc, take-at, length-take-le}
 use borrow.Rule.Slice.PartMut.{putMid}
-use Rattle.laws.specs.Writes.{Writes}
-use Rattle.laws.proofs.Writing.{none, same, room, byte, more}
-use Rattle.text.specs.Text.{hex}
-use Rattle.line.specs.Adds.{Holds, Adds}
-use Rattle.line.proofs.Laws.{nothing, then}
+use Rattle.base_laws.specs.Writes.{Writes}
+use Rattle.base_laws.proofs.Writing.{none, same, room, byte, more}
+use Rattle.base_text.specs.Text.{hex}
+use Rattle.base_line.specs.Adds.{Holds, Adds}
+use Rattle.base_line.proofs.Laws.{nothing, then}
 use Rattle.hex_form.specs.Line.{sum}
 use Rattle.hex_form.specs.Writing.{pairs, at, checksum, lineText, headBytes, lineBytes}
 use Rattle.hex_form.proofs.Texts.{record-long}

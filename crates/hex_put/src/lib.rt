@@ -1,13 +1,13 @@
 // One line written as Intel HEX.
-use line::put_byte;
-use line::put_hex;
-use text::put_bytes;
+use base_line::put_byte;
+use base_line::put_hex;
+use base_text::put_bytes;
 ghost use mathlib.Core.Path.{_≡_};
 ghost use mathlib.Core.List.{[], _∷_};
 ghost use Prim.Native.Nat.{_+_, _*_, _/_, _%_, _≤_};
 ghost use lib.ListN.{length};
-ghost use Rattle.laws.specs.Writes.{Writes};
-ghost use Rattle.line.specs.Adds.{Adds};
+ghost use Rattle.base_laws.specs.Writes.{Writes};
+ghost use Rattle.base_line.specs.Adds.{Adds};
 ghost use Rattle.hex_form.specs.Line.{sum};
 ghost use Rattle.hex_form.specs.Writing.{pairs, at, checksum, lineText, headBytes, lineBytes};
 

@@ -9,7 +9,7 @@ use lib.Seq.{drop-drop}
 use lib.Dec.{eqb, lit≤}
 use borrow.Author.Tests.{eq-eqb, ne-eqb}
 use Rattle.sheet.specs.Width.{pick}
-use Rattle.laws.proofs.Parts.{rest}
+use Rattle.base_laws.proofs.Parts.{rest}
 use Rattle.hex_form.specs.Line.{kind, span}
 use Rattle.hex_form.specs.Reading.{fault, segmentAfter, Verdict, verdict, verdictFrom, verdictOf, Passes}
 use Rattle.hex_form.proofs.Walk.{span-some, span-there, good-formed, no-line, faulty-line, end-line, line-and-rest}

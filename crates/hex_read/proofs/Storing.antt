@@ -10,7 +10,7 @@ use lib.Seq.{drop-drop}
 use lib.Dec.{eqb, leb, ltb}
 use borrow.Author.Tests.{leb-true, ltb-true, eqb-true, eqb-false, ne-eqb}
 use Rattle.sheet.specs.Width.{pick}
-use Rattle.laws.proofs.Parts.{rest}
+use Rattle.base_laws.proofs.Parts.{rest}
 use Rattle.hex_form.specs.Line.{byte, size, kind, span}
 use Rattle.hex_form.specs.Reading.{place, inside, fault, segmentAfter, Verdict, verdict, numberOf, verdictFrom, verdictOf, Store, store, storeAt, firstStores, lineStores, storesFrom, storesOf, stored, applied, Passes, Reads}
 use Rattle.hex_form.proofs.Walk.{span-some, span-there, good-formed, faulty-line, line-and-rest, no-stores, end-stores, line-and-stores}

@@ -17,7 +17,7 @@ pub struct Checked {
     pub line: usize,
 }
 
-pub fn check(text: &[u8], base: u32, n: usize) -> Checked
+fn check(text: &[u8], base: u32, n: usize) -> Checked
     ensures { λ r. ⌜ verdictOf base n (now (text .entry)) ≡ verdict (r .number) (r .line) ⌝ }
 {
     let mut at = 0;

@@ -5,8 +5,8 @@ use mathlib.Core.List.{List, [], _∷_, _++_}
 use native.Mathlib.Omega.{arith}
 use lib.ListN.{length, take, drop, length-append, length-take, length-drop}
 use borrow.Rule.Slice.PartMut.{putMid}
-use Rattle.laws.specs.Writes.{Writes}
-use Rattle.laws.proofs.Writing.{none, same, room, more, front}
+use Rattle.base_laws.specs.Writes.{Writes}
+use Rattle.base_laws.proofs.Writing.{none, same, room, more, front}
 use Rattle.hex_form.specs.Writing.{lineText, lineBytes, dataText, segmentText, endText, segmentFor, turnText, chunkText, textFrom, hexText, WritesHex}
 use Rattle.hex_form.proofs.Texts.{record-long, segment-low, segment-fits, segment-kept, segment-new, no-turn, turn, turn-long, chunk-long, text-ends, text-more}
 

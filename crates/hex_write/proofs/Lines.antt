@@ -11,8 +11,8 @@ use lib.Dec.{ltb, leb, lit≤}
 use borrow.Author.Tests.{ltb-true, ltb-false, eqb-false, le-leb, lt-leb}
 use borrow.Rule.Slice.PartMut.{putMid}
 use Rattle.sheet.specs.Width.{pick}
-use Rattle.laws.specs.Writes.{Writes}
-use Rattle.laws.proofs.Writing.{none, same, room, more, front}
+use Rattle.base_laws.specs.Writes.{Writes}
+use Rattle.base_laws.proofs.Writing.{none, same, room, more, front}
 use Rattle.hex_form.specs.Writing.{lineText, lineBytes, dataText, endText, segmentFor, turnText, chunkText, textFrom, hexText, Ends, WritesHex}
 use Rattle.hex_form.proofs.Texts.{record-long, segment-low, segment-fits, turn-long, chunk-long, text-ends, text-more}
 

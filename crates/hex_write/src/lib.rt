@@ -4,7 +4,7 @@ ghost use mathlib.Core.Path.{_≡_};
 ghost use mathlib.Core.List.{_++_};
 ghost use Prim.Native.Nat.{_+_, _*_, _-_, _≤_, _<_};
 ghost use lib.ListN.{length};
-ghost use Rattle.laws.specs.Writes.{Writes};
+ghost use Rattle.base_laws.specs.Writes.{Writes};
 ghost use Rattle.hex_form.specs.Writing.{segmentText, segmentFor, turnText, chunkText, hexText, Ends, WritesHex};
 
 fn segment_for(g: usize, a: usize) -> usize

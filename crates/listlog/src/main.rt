@@ -1,4 +1,6 @@
-// Lists the port log on standard input. In the gate: document 01's sample.
+// Lists the port log on standard input, as the engine writes it. In the gate: document 01's sample.
+use sheet::GapRule;
+
 fn main() {
-    listrun::run();
+    log_run::run(GapRule::New);
 }

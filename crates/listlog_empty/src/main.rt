@@ -1,4 +1,6 @@
 // listlog, in the gate on an empty input.
+use sheet::GapRule;
+
 fn main() {
-    listrun::run();
+    log_run::run(GapRule::New);
 }

@@ -1,4 +1,4 @@
 // Lists the ROM image on standard input.
 fn main() {
-    romrun::list();
+    rom_run::list();
 }

@@ -11,18 +11,18 @@ use lib.Seq.{take-suc, getD-drop}
 use lib.Dec.{leb}
 use borrow.Author.Tests.{leb-true}
 use Rattle.sheet.specs.declared.Instr.{Instr}
-use Rattle.text.specs.Text.{text, hex}
-use Rattle.line.specs.Adds.{Adds}
-use Rattle.line.proofs.Laws.{nothing, then}
-use Rattle.mnemonics.specs.Mnemonics.{instrText}
+use Rattle.base_text.specs.Text.{text, hex}
+use Rattle.base_line.specs.Adds.{Adds}
+use Rattle.base_line.proofs.Laws.{nothing, then}
+use Rattle.rom_mnemonic.specs.Mnemonics.{instrText}
 use Rattle.sheet.specs.Reading.{Read, known, unknown}
 use Rattle.sheet.specs.FirstByte.{instruction}
 use Rattle.sheet.specs.Step.{codeByte}
-use Rattle.answers.specs.declared.Decoded.{Decoded}
-use Rattle.answers.specs.declared.Decoded.the-variants.{Known, Unknown}
-use Rattle.answers.specs.Answer.{Decodes}
-use Rattle.answers.proofs.DecodesLaws.{known-reads, unknown-refuses}
-use Rattle.romlist.specs.Listing.{bytesText, line, dataText, top, rest, readAt, whole, sizeOf, wordsOf, sizeAt, lineAt}
+use Rattle.code_answer.specs.declared.Decoded.{Decoded}
+use Rattle.code_answer.specs.declared.Decoded.the-variants.{Known, Unknown}
+use Rattle.code_answer.specs.Answer.{Decodes}
+use Rattle.code_answer.proofs.DecodesLaws.{known-reads, unknown-refuses}
+use Rattle.rom_form.specs.Listing.{bytesText, line, dataText, top, rest, readAt, whole, sizeOf, wordsOf, sizeAt, lineAt}
 use Rattle.rom_line.specs.Makes.{headText, instrLine, dataLine, MakesByte, Makes}
 
 bytes-more : (x : List ℕ) (b : ℕ) → bytesText (x ++ (b ∷ [])) ≡ bytesText x ++ hex 2 b

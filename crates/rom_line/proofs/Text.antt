@@ -5,9 +5,9 @@ use mathlib.Core.List.{List, []}
 use native.Mathlib.Omega.{arith}
 use lib.ListN.{length, take}
 use lib.Seq.{length-take-le}
-use Rattle.line.specs.Adds.{Holds}
-use Rattle.romlist.specs.Listing.{top, lineAt}
-use Rattle.romlist.proofs.Lines.{line-short}
+use Rattle.base_line.specs.Adds.{Holds}
+use Rattle.rom_form.specs.Listing.{top, lineAt}
+use Rattle.rom_form.proofs.Lines.{line-short}
 use Rattle.rom_line.specs.Makes.{Makes}
 
 module _ {image line line′ : List ℕ} {a r size : ℕ} (h : a < top) (n : length line ≡ 80) (m : Makes image a line r size line′) where

@@ -3,11 +3,11 @@ use Prim.Native.Nat.{ℕ, _-_, _*_}
 use mathlib.Core.Path.{_≡_}
 use mathlib.Core.List.{List, _++_}
 use lib.ListN.{length, getD, take, drop, replicate}
-use Rattle.text.specs.Text.{text, hex}
-use Rattle.line.specs.Adds.{Adds}
+use Rattle.base_text.specs.Text.{text, hex}
+use Rattle.base_line.specs.Adds.{Adds}
 use Rattle.sheet.specs.declared.Instr.{Instr}
-use Rattle.mnemonics.specs.Mnemonics.{instrText}
-use Rattle.romlist.specs.Listing.{bytesText, line, dataText, lineAt, sizeAt}
+use Rattle.rom_mnemonic.specs.Mnemonics.{instrText}
+use Rattle.rom_form.specs.Listing.{bytesText, line, dataText, lineAt, sizeAt}
 
 -- a line up to where its words begin
 unfoldable pub headText : ℕ → List ℕ → List ℕ

@@ -1,15 +1,15 @@
 // One line of the listing of a ROM.
-use answers::Decoded;
-use line::put_byte;
-use line::put_hex;
-use line::put_word;
+use base_line::put_byte;
+use base_line::put_hex;
+use base_line::put_word;
+use code_answer::Decoded;
 use sheet::Instr;
 ghost use Prim.Native.Nat.{_+_, _-_, _*_, _≤_, _<_};
 ghost use lib.ListN.{length, getD, take, drop, replicate};
 ghost use mathlib.Core.Path.{_≡_};
-ghost use Rattle.text.specs.Text.{hex};
-ghost use Rattle.line.specs.Adds.{Adds};
-ghost use Rattle.romlist.specs.Listing.{bytesText, top, whole};
+ghost use Rattle.base_text.specs.Text.{hex};
+ghost use Rattle.base_line.specs.Adds.{Adds};
+ghost use Rattle.rom_form.specs.Listing.{bytesText, top, whole};
 ghost use Rattle.rom_line.specs.Makes.{headText, instrLine, dataLine, MakesByte, Makes};
 
 fn put_pair(line: &mut [u8; 80], at: usize, b: u8) -> usize
@@ -58,7 +58,7 @@ fn put_instr_line(line: &mut [u8; 80], a: u32, bytes: &[u8], next: u32, i: Instr
     ensures { λ r. ⌜ Adds (instrLine a (now (bytes .entry)) next i) (now (line .entry)) 0 r (now (line .exit)) ⌝ }
 {
     let x = put_head(line, a, bytes);
-    let y = instr_words::put_instr(line, x, next, i);
+    let y = rom_words::put_instr(line, x, next, i);
     put_byte(line, y, b'\n')
 }
 
@@ -102,7 +102,7 @@ pub fn make_line(line: &mut [u8; 80], image: &[u8], a: u32) -> Made
 {
     let k = a as usize + image.len() - 1048576;
     let left = image.len() - k;
-    match decode::decode(&image[..0], image, (a / 16) as u16, (a % 16) as u16) {
+    match code_decode::decode(&image[..0], image, (a / 16) as u16, (a % 16) as u16) {
         Decoded::Known { instr, size } => {
             let n = size as usize;
             if lies(n, left) {

@@ -1,4 +1,4 @@
 // Rebuilds a ROM image from the lines of its listing on standard input.
 fn main() {
-    romrun::rebuild();
+    rom_run::rebuild();
 }

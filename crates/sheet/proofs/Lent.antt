@@ -14,7 +14,7 @@ use Rattle.sheet.specs.Width.{pick, bytesOf, wrapOf}
 use Rattle.sheet.specs.Psw.{Flag, Effect, Choice, fixedOf, flagOf, settled}
 use Rattle.sheet.specs.Registers.{PSW, fileOf, written}
 use Rattle.sheet.specs.Memory.{physical, next, readMem, writeMem, lostBytes}
-use Rattle.sheet.specs.Log.{rule, keyOf, recordBytes, writeLog}
+use Rattle.sheet.specs.Log.{ceiling, rule, keyOf, recordBytes, writeLog}
 use Rattle.sheet.specs.World.{World, world, withState, withRam, pswOf, withFile, withPsw, withHalted, recorded}
 use Rattle.sheet.specs.Act.{Act, pure, refuse, get, put, ask, copy, flags, load, store, input, output, halt}
 use Rattle.sheet.specs.Handler.{Access, short, through, recording, taped, inputs, outputs, Event, reads, writes, takes, gives, asks, copies, changes, Outcome, refused, done, then, ported, runBy}
@@ -46,7 +46,7 @@ pub record Sound (w : World) : Type 0 where
   pub fixed : fixedOf (pswOf (w .state)) ≡ true
   pub tape-in : w .state .progress .tape ≤ length (w .tape)
   pub log-in : w .state .progress .log ≤ length (w .log)
-  pub count-in : w .state .progress .count ≤ rule .ceiling
+  pub count-in : w .state .progress .count ≤ ceiling rule
 
 pub writeMem-length : (b : Bool) (r : List ℕ) (g o x : ℕ) → length (writeMem b r g o x) ≡ length r
 unfolding writeMem

@@ -3,6 +3,7 @@ pub mod Lifted
 pub mod PswLaws
 pub mod ReadingLaws
 pub mod Lent
+pub mod Reach
 pub mod Rests
 pub mod Loop
 pub mod TableLaws

@@ -18,7 +18,7 @@ use Rattle.sheet.specs.Log.{rule, keyOf, recordBytes, writeLog}
 use Rattle.sheet.specs.World.{World, world, withState, withRam, pswOf, withFile, withPsw, withHalted, recorded}
 use Rattle.sheet.specs.Act.{Act, pure, refuse, get, put, ask, copy, flags, load, store, input, output, halt}
 use Rattle.sheet.specs.Handler.{Access, short, through, recording, taped, inputs, outputs, Event, reads, writes, takes, gives, asks, copies, changes, Outcome, refused, done, then, ported, runBy, happened}
-use Rattle.sheet.specs.Reach.{Covers, Sees, Within, Misses, Spares}
+use Rattle.sheet.proofs.Reach.{Covers, Sees, Within, Misses, Spares}
 use Rattle.sheet.proofs.Lent.{Leaves, none-left, leaves, LeavesAccess, none-port, leaves-port, leaves-then, writeMem-length, writeLog-length}
 
 -- the bytes that worlds may differ in: everything that is lent but the tape

@@ -16,15 +16,16 @@ use Rattle.sheet.specs.World.{World, world, marksOf}
 use Rattle.sheet.specs.Handler.{runBy, tally}
 use Rattle.sheet.specs.Operand.{formAt, regValue, setReg, locate, fetch, deposit, valueAt, sourceValue, amountOf}
 use Rattle.sheet.specs.Traps.{push, pushPsw, pushPsPc, jumpFar, save, trap, untrapped}
-use Rattle.sheet.specs.Arithmetic.{resulting, sum, finish, operate, conclude, two}
-use Rattle.sheet.specs.Multiply.{stands, bitsOf, quoted, signedQuotient, dividend, setQuotient, divided, div}
+use Rattle.sheet.specs.Arithmetic.{resulting, sum, finish, operate, conclude, two, calculate}
+use Rattle.sheet.specs.Multiply.{stands, bitsOf, quoted, signedQuotient, dividend, setQuotient, divided, div, multiply}
 use Rattle.sheet.specs.Shift.{comesIn, toLeft, onePlace, manyPlaces, shifted, turned, shiftMany, carryIn, shiftBy, shift}
 use Rattle.sheet.specs.Adjust.{plain, lowAdjusted, highAdjusted, adjusted, packedResult, adj4}
-use Rattle.sheet.specs.Decimal.{digits, link, chained, string}
-use Rattle.sheet.specs.Fields.{replaced, lengthOf, advance, insertInto, firstPart, secondPart, ins}
+use Rattle.sheet.specs.Decimal.{digits, link, chained, string, decimal}
+use Rattle.sheet.specs.Fields.{replaced, lengthOf, advance, insertInto, firstPart, secondPart, ins, field}
 use Rattle.sheet.specs.Transfer.{movIn}
 use Rattle.sheet.specs.Stack.{pushRegister, pushPlace, stack, popIn}
-use Rattle.sheet.specs.Execute.{calculate, multiply, convert, decimal, field, computing, moving, operation, execute}
+use Rattle.sheet.specs.Convert.{convert}
+use Rattle.sheet.specs.Execute.{computing, moving, operation, execute}
 use Rattle.sheet.specs.Reading as reading
 use Rattle.sheet.specs.Reading.{scan, word, immediate, allow}
 use Rattle.sheet.specs.Encoding.{prefixOf, formed, address, inMemory, place, lookUp}

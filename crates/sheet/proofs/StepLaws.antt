@@ -11,7 +11,7 @@ use borrow.Author.Tests.{leb-true}
 use Rattle.sheet.specs.declared.Instr.{Instr}
 use Rattle.sheet.specs.Width.{pick}
 use Rattle.sheet.specs.Psw.{IE, Choice, flagOf, fixedOf}
-use Rattle.sheet.specs.Log.{rule}
+use Rattle.sheet.specs.Log.{ceiling, rule}
 use Rattle.sheet.specs.World.{World, pswOf}
 use Rattle.sheet.specs.Handler.{Event, Outcome, refused, done, runBy}
 use Rattle.sheet.specs.Reading.{Read, known, unknown}
@@ -79,7 +79,7 @@ sound-is w n e =
 
 pub starting-sound : (i : Instr) (w : World) → Sound w → Sound (starting i w)
 unfolding starting
-starting-sound i w s = record { whole = s .whole; fixed = s .fixed; tape-in = s .tape-in; log-in = s .log-in; count-in = min-le-right (w .state .progress .count + 1) (rule .ceiling) }
+starting-sound i w s = record { whole = s .whole; fixed = s .fixed; tape-in = s .tape-in; log-in = s .log-in; count-in = min-le-right (w .state .progress .count + 1) (ceiling rule) }
 
 good-of : {w v : World} {t : List Event} → Leaves {A = Unit {0}} (Good w) (done tt v t) → Good w v
 good-of (leaves g) = g

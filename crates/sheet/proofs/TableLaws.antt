@@ -15,7 +15,7 @@ below n [] = true
 below n (r ∷ t) = leb (r .from + r .many) n && below n t
 
 pub look-up-at : (before : List Row) (r : Row) (after : List Row) (b : ℕ) → below (r .from) before ≡ true → r .from ≤ b → b < r .from + r .many
-    → lookUp (before ++ (r ∷ after)) b ≡ r .reads (b - r .from)
+    → lookUp (before ++ (r ∷ after)) b ≡ r .reads b
 unfolding lookUp
 look-up-at [] r after b e h k = rw (le-leb (r .from) b h, lt-ltb b (r .from + r .many) k)
 look-up-at (q ∷ t) r after b e h k =
@@ -24,7 +24,7 @@ look-up-at (q ∷ t) r after b e h k =
     let w : q .from + q .many ≤ b = omega arith in
     go (leb (q .from) b) w (look-up-at t r after b y h k)
   where
-    go : (c : Bool) → q .from + q .many ≤ b → lookUp (t ++ (r ∷ after)) b ≡ r .reads (b - r .from)
-        → pick (c && ltb b (q .from + q .many)) (q .reads (b - q .from)) (lookUp (t ++ (r ∷ after)) b) ≡ r .reads (b - r .from)
+    go : (c : Bool) → q .from + q .many ≤ b → lookUp (t ++ (r ∷ after)) b ≡ r .reads b
+        → pick (c && ltb b (q .from + q .many)) (q .reads b) (lookUp (t ++ (r ∷ after)) b) ≡ r .reads b
     go true w i = rw (le-ltb b (q .from + q .many) w) i
     go false w i = i

@@ -4,6 +4,8 @@ use mathlib.Core.Bool.{Bool, false, not, _&&_, Bool·beq}
 use Prim.Native.Nat.{ℕ, _+_, _-_, _%_}
 use lib.Dec.{eqb, leb, ltb}
 use lib.Bits.{bitAnd, bitOr, bitXor}
+use Rattle.sheet.specs.declared.Arithmetic.{Arithmetic}
+use Rattle.sheet.specs.declared.Arithmetic.the-variants.{Two, One, Test}
 use Rattle.sheet.specs.declared.Operation.{Operation}
 use Rattle.sheet.specs.declared.Operation.the-variants.{Add, Or, Addc, Subc, And, Sub, Xor, Cmp}
 use Rattle.sheet.specs.declared.Unary.{Unary}
@@ -140,3 +142,8 @@ one op w dst = do
   s ← locate dst
   a ← fetch w s
   finish w s (unary op w a)
+
+unfoldable pub calculate : Arithmetic → Act Unit
+calculate (Two op w to from) = two op w to from
+calculate (One op w to) = one op w to
+calculate (Test w left right) = test w left right

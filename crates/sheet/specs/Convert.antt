@@ -2,6 +2,10 @@
 -- 001:1379-1382; 000:1071-1074; 01:59
 use mathlib.Core.Bool.{true, false}
 use Prim.Native.Nat.{ℕ, _+_, _*_, _/_, _%_}
+use Rattle.sheet.specs.declared.Convert.{Convert}
+use Rattle.sheet.specs.declared.Convert.the-variants.{Adjba, Adj4a, Adjbs, Adj4s, Cvtbd, Cvtdb, Cvtbw, Cvtwl}
+use Rattle.sheet.specs.declared.Way.the-variants.{Addition, Subtraction}
+use Rattle.sheet.specs.Adjust.{adj4, adjb}
 use Rattle.sheet.specs.Width.{pick, signOf, extend}
 use Rattle.sheet.specs.Psw.{unknown}
 use Rattle.sheet.specs.Registers.{AW, DW, AL, AH}
@@ -13,21 +17,21 @@ use Rattle.sheet.specs.Arithmetic.{Result, resulting}
 unfoldable pub converted : ℕ → ℕ → Result
 converted ah al = record { value = ah * 256 + al; column = resulting false al unknown unknown unknown .column }
 
-unfoldable pub convert : ℕ → ℕ → Act Unit
-convert ah al = do
+unfoldable pub setConverted : ℕ → ℕ → Act Unit
+setConverted ah al = do
   affect (converted ah al .column)
   AW ≔ converted ah al .value
 
 unfoldable pub cvtbd : Act Unit
 cvtbd = do
   x ← regValue false AL
-  convert (x / 10) (x % 10)
+  setConverted (x / 10) (x % 10)
 
 unfoldable pub cvtdb : Act Unit
 cvtdb = do
   x ← regValue false AL
   y ← regValue false AH
-  convert 0 ((y * 10 + x) % 256)
+  setConverted 0 ((y * 10 + x) % 256)
 
 unfoldable pub cvtbw : Act Unit
 cvtbw = do
@@ -38,3 +42,14 @@ unfoldable pub cvtwl : Act Unit
 cvtwl = do
   r ← registers
   DW ≔ pick (signOf true (r AW)) 65535 0
+
+-- with ADJ.. of the chapter before
+unfoldable pub convert : Convert → Act Unit
+convert Adjba = adjb Addition
+convert Adj4a = adj4 Addition
+convert Adjbs = adjb Subtraction
+convert Adj4s = adj4 Subtraction
+convert Cvtbd = cvtbd
+convert Cvtdb = cvtdb
+convert Cvtbw = cvtbw
+convert Cvtwl = cvtwl

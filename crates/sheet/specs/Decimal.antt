@@ -3,6 +3,8 @@
 use mathlib.Core.Bool.{Bool, true, false, _&&_}
 use Prim.Native.Nat.{ℕ, _+_, _*_, _/_, _%_}
 use lib.Dec.{eqb}
+use Rattle.sheet.specs.declared.Decimal.{Decimal}
+use Rattle.sheet.specs.declared.Decimal.the-variants.{Add4s, Sub4s, Cmp4s, Rol4, Ror4}
 use Rattle.sheet.specs.declared.Place.{Place}
 use Rattle.sheet.specs.declared.Digits.{Digits}
 use Rattle.sheet.specs.declared.Way.{Way}
@@ -80,3 +82,10 @@ ror4 dst = do
   x ← fetch false s
   deposit false s (al % 16 * 16 + x / 16)
   setReg false AL (al / 16 * 16 + x % 16)
+
+unfoldable pub decimal : Decimal → Act Unit
+decimal (Add4s seg) = add4s seg
+decimal (Sub4s seg) = sub4s seg
+decimal (Cmp4s seg) = cmp4s seg
+decimal (Rol4 to) = rol4 to
+decimal (Ror4 to) = ror4 to

@@ -108,7 +108,7 @@ memory p m = do
 
 -- ---- tables
 
--- a row of section 8: its first code, how many codes it has, and what follows the one at a distance from the first
+-- a row of section 8: its first code, how many codes it has, and what follows each of them
 pub record Row : Type 0 where
   pub from : ℕ
   pub many : ℕ
@@ -125,12 +125,15 @@ unfoldable pub lookUp : List Row → ℕ → Reading Instr
 lookUp [] b = no 3
 lookUp (r ∷ t) b =
     let others : Reading Instr = lookUp t b in
-    let here : Reading Instr = r .reads (b - r .from) in
+    let here : Reading Instr = r .reads b in
     pick (covers r b) here others
 
--- bit 0 of a code is W; bit 1 says that the register is the destination
+-- bit 0 of a code is W; bit 1 says that the register is the destination; the low three bits name a register
 abbrev pub W : ℕ → Bool
-W n = odd n
+W b = odd b
 
 abbrev pub toRegister : ℕ → Bool
-toRegister n = at n 2
+toRegister b = at b 2
+
+abbrev pub regOf : ℕ → ℕ
+regOf b = b % 8

@@ -3,6 +3,8 @@
 use mathlib.Core.Bool.{Bool, true, false}
 use Prim.Native.Nat.{ℕ, _+_, _-_, _*_, _/_, _%_, _^_, min}
 use lib.Dec.{leb, ltb}
+use Rattle.sheet.specs.declared.Field.{Field}
+use Rattle.sheet.specs.declared.Field.the-variants.{Ins, Ext}
 use Rattle.sheet.specs.declared.Length.{Length}
 use Rattle.sheet.specs.declared.Length.the-variants.{InRegister, Given}
 use Rattle.sheet.specs.Width.{pick, add16}
@@ -72,3 +74,7 @@ ext seg offset length = do
   x ← window (r (segment seg)) (r IX) (ltb 16 (at + n))
   AW ≔ fieldOf x at n
   advance offset IX (at + n)
+
+unfoldable pub field : Field → Act Unit
+field (Ins offset length) = ins offset length
+field (Ext seg offset length) = ext seg offset length

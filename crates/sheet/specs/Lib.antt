@@ -30,9 +30,9 @@ pub mod Execute
 pub mod Encoding
 pub mod SecondByte
 pub mod FirstByte
+pub mod Lendable
 pub mod Step
 pub mod Run
-pub mod Reach
 pub mod CardPlaces
 pub mod CardPoint
 pub mod CardArithmetic

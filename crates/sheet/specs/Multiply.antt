@@ -5,6 +5,8 @@ use Prim.Native.Nat.{ℕ, _+_, _*_, _/_, _%_}
 use lib.Dec.{eqb, ltb}
 use lib.IntN.{ℤ, pos, _-ℤ_, _*ℤ_}
 use lib.Signed.{quotZ, remZ, ltZ, leZ}
+use Rattle.sheet.specs.declared.Multiply.{Multiply}
+use Rattle.sheet.specs.declared.Multiply.the-variants.{Mulu, Mul, MulByte, MulWord, Divu, Div}
 use Rattle.sheet.specs.declared.Place.{Place}
 use Rattle.sheet.specs.declared.Product.{Product}
 use Rattle.sheet.specs.declared.Divided.{Divided}
@@ -14,7 +16,7 @@ use Rattle.sheet.specs.Psw.{unknown, becomes, Column, columns}
 use Rattle.sheet.specs.Registers.{AW, DW, File}
 use Rattle.sheet.specs.Act.{Act, pure, _>>=_, _>>_, registers, _≔_, affect}
 use Rattle.sheet.specs.Operand.{regValue, setReg, valueAt}
-use Rattle.sheet.specs.Traps.{trap}
+use Rattle.sheet.specs.Traps.{trap, untrapped}
 
 -- ---- products
 
@@ -128,3 +130,11 @@ div w by = do
   b ← valueAt w by
   r ← registers
   divided w (signedQuotient w (dividend w r) b)
+
+unfoldable pub multiply : Multiply → Act Bool
+multiply (Mulu w by) = untrapped (mulu w by)
+multiply (Mul w by) = untrapped (mul w by)
+multiply (MulByte reg from by) = untrapped (mulBy reg from by)
+multiply (MulWord reg from by) = untrapped (mulBy reg from by)
+multiply (Divu w by) = divu w by
+multiply (Div w by) = div w by

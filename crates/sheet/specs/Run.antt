@@ -1,4 +1,4 @@
--- A run of steps.
+-- A run of steps, of a budget up to `budgetTop` (Lendable).
 -- 01:31, 48
 use Prim.Native.Nat.{ℕ, zero, suc}
 use mathlib.Core.List.{List, [], _∷_}

@@ -33,13 +33,13 @@ withPlain p k = do
   got (k to)
 
 unfoldable pub bitInCl : Prefixes → Bit → ℕ → Reading Instr
-bitInCl p op n = withPlain p (λ to. Bits op (W n) to InCl)
+bitInCl p op b = withPlain p (λ to. Bits op (W b) to InCl)
 
 unfoldable pub bitGiven : Prefixes → Bit → ℕ → Reading Instr
-bitGiven p op n = do
+bitGiven p op b = do
   to ← plainPlace p
   number ← byte
-  got (Bits op (W n) to (Given number))
+  got (Bits op (W b) to (Given number))
 
 -- 11 reg' reg: the offset's register in the low field, the length's in the other
 unfoldable pub fieldInRegister : (ℕ → Length → Reading Instr) → Reading Instr
@@ -66,13 +66,13 @@ secondBytes p =
     ∷ row 0x1a 2 (bitGiven p Clr1)  -- CLR1 ..,imm 000:1124-1127
     ∷ row 0x1c 2 (bitGiven p Set1)  -- SET1 ..,imm 000:1132-1135
     ∷ row 0x1e 2 (bitGiven p Not1)  -- NOT1 ..,imm 001:1452-1455
-    ∷ row 0x20 1 (λ n. got (Decimals (Add4s (segOr (p .seg) inDs0))))  -- ADD4S 000:1007
-    ∷ row 0x22 1 (λ n. got (Decimals (Sub4s (segOr (p .seg) inDs0))))  -- SUB4S 000:1008
-    ∷ row 0x26 1 (λ n. got (Decimals (Cmp4s (segOr (p .seg) inDs0))))  -- CMP4S 000:1009
-    ∷ row 0x28 1 (λ n. withPlain p (λ to. Decimals (Rol4 to)))  -- ROL4 000:1010-1011
-    ∷ row 0x2a 1 (λ n. withPlain p (λ to. Decimals (Ror4 to)))  -- ROR4 000:1012-1013
-    ∷ row 0x31 1 (λ n. fieldInRegister (λ o l. got (Fields (Ins o l))))  -- INS reg8,reg8' 000:958-959
-    ∷ row 0x33 1 (λ n. fieldInRegister (λ o l. got (Fields (Ext (segOr (p .seg) inDs0) o l))))  -- EXT reg8,reg8' 000:962-963
-    ∷ row 0x39 1 (λ n. fieldGiven (λ o l. got (Fields (Ins o l))))  -- INS reg8,imm4 000:960-961
-    ∷ row 0x3b 1 (λ n. fieldGiven (λ o l. got (Fields (Ext (segOr (p .seg) inDs0) o l))))  -- EXT reg8,imm4 000:964-965
+    ∷ row 0x20 1 (λ b. got (Decimals (Add4s (segOr (p .seg) inDs0))))  -- ADD4S 000:1007
+    ∷ row 0x22 1 (λ b. got (Decimals (Sub4s (segOr (p .seg) inDs0))))  -- SUB4S 000:1008
+    ∷ row 0x26 1 (λ b. got (Decimals (Cmp4s (segOr (p .seg) inDs0))))  -- CMP4S 000:1009
+    ∷ row 0x28 1 (λ b. withPlain p (λ to. Decimals (Rol4 to)))  -- ROL4 000:1010-1011
+    ∷ row 0x2a 1 (λ b. withPlain p (λ to. Decimals (Ror4 to)))  -- ROR4 000:1012-1013
+    ∷ row 0x31 1 (λ b. fieldInRegister (λ o l. got (Fields (Ins o l))))  -- INS reg8,reg8' 000:958-959
+    ∷ row 0x33 1 (λ b. fieldInRegister (λ o l. got (Fields (Ext (segOr (p .seg) inDs0) o l))))  -- EXT reg8,reg8' 000:962-963
+    ∷ row 0x39 1 (λ b. fieldGiven (λ o l. got (Fields (Ins o l))))  -- INS reg8,imm4 000:960-961
+    ∷ row 0x3b 1 (λ b. fieldGiven (λ o l. got (Fields (Ext (segOr (p .seg) inDs0) o l))))  -- EXT reg8,imm4 000:964-965
     ∷ []

@@ -1,4 +1,6 @@
--- One step, an interrupt call, and reset; what a step and an interrupt report.
+-- One step, an interrupt call, and reset; what a step and an interrupt report. Calls are given worlds that are `lendable`, and
+-- vectors up to `vectorTop` (Lendable). What follows from it: an instruction has at most nine bytes (01:23: `nine-bytes` in
+-- romlist/proofs), a step makes at most 1,028 bus cycles (01:66: `at-most-1028` in theorems/proofs). What a service is (01:29): `Service` in theorems/specs/Repeat.
 -- 01:15, 23-29, 35-48; 02 f
 use Prim.Native.Nat.{ℕ, _+_}
 use mathlib.Core.Bool.{Bool, true, false, not, _&&_}
@@ -15,7 +17,7 @@ use Rattle.sheet.specs.Width.{pick, add16}
 use Rattle.sheet.specs.Psw.{BRK, IE, Choice, flagOf, fixedOf}
 use Rattle.sheet.specs.Registers.{PS, PC, PSW, fileOf}
 use Rattle.sheet.specs.Memory.{physical, byteAt}
-use Rattle.sheet.specs.Log.{rule, risen}
+use Rattle.sheet.specs.Log.{ceiling, rule, risen}
 use Rattle.sheet.specs.World.{World, withState, stateOf, progressOf, pswOf, withCount, withMarks, marksOf, markLoaded}
 use Rattle.sheet.specs.Act.{Act, pure, _>>=_, _>>_, flag, halted}
 use Rattle.sheet.specs.Handler.{Outcome, refused, runBy, kept}
@@ -35,7 +37,7 @@ fits w = leb (length (w .ram) + length (w .rom)) 1048576
 
 -- places and count
 abbrev pub placesGood : State → List ℕ → List ℕ → Bool
-placesGood s tape log = leb (s .progress .tape) (length tape) && (leb (s .progress .log) (length log) && leb (s .progress .count) (rule .ceiling))
+placesGood s tape log = leb (s .progress .tape) (length tape) && (leb (s .progress .log) (length log) && leb (s .progress .count) (ceiling rule))
 
 -- never both: HALT is then itself the last finished step
 abbrev pub marksGood : Marks → Bool

@@ -339,6 +339,12 @@ pub enum Instr {
 
 // ---- the port log
 
+// The rule that gaps were written under: document 01's, or that of document 02 c.
+pub enum GapRule {
+    Old,
+    New,
+}
+
 // A number at the start of a part of the log, and how many bytes it has.
 pub enum Number {
     Got { value: u64, len: usize },

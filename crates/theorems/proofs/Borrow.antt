@@ -34,14 +34,14 @@ use Rattle.sheet.specs.FirstByte.{firstBytes, instruction}
 use Rattle.sheet.specs.Operand.{regValue}
 use Rattle.sheet.specs.declared.Way.the-variants.{Subtraction}
 use Rattle.sheet.specs.declared.Storing.the-variants.{Stored}
-use Rattle.sheet.specs.Decimal.{digits, link, chained, string}
+use Rattle.sheet.specs.Decimal.{digits, link, chained, string, decimal}
 use Rattle.sheet.specs.Traps.{untrapped}
-use Rattle.sheet.specs.Execute.{computing, decimal, operation, execute}
+use Rattle.sheet.specs.Execute.{computing, operation, execute}
 use Rattle.sheet.specs.Step.{fits, sound, source, loadsSegment, singleStep, starting, stepping, step, stepReport, instructionIn}
 use Rattle.sheet.proofs.PswLaws.{flag-settled}
 use Rattle.sheet.proofs.Rules.{seq-last, ends-pure, seq-registers, seq-set, seq-flag}
 use Rattle.sheet.proofs.BlockLaws.{no-prefix, Begins, scan-prefixes}
-use Rattle.decimal.proofs.DecimalLaws.{packed, decimal-borrow}
+use Rattle.calc_decimal.proofs.DecimalLaws.{packed, decimal-borrow}
 use Rattle.engine.specs.Steps.{Steps}
 use Rattle.engine.proofs.RunLaws.{as-done}
 use Rattle.theorems.specs.Repeat.{reg}

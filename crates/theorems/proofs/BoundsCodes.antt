@@ -16,7 +16,7 @@ use Rattle.sheet.specs.Reading.{Reading}
 use Rattle.sheet.specs.Encoding.{Prefix, unprefixed, withPrefix, regField, Row, toRegister, lookUp}
 use Rattle.sheet.specs.SecondByte.{withPlain, bitInCl, bitGiven, fieldInRegister, fieldGiven, secondBytes}
 use Rattle.sheet.specs.FirstByte.{sixCodes, smallImmediate, withImmediate, withShift, shiftGroup, groupF6, groupFE, groupFF, fromSegment, toSegment, afterTen, withCounted, bytes00, bytes40, bytes80, bytesC0, firstBytes, afterPrefix, prefixed, instruction}
-use Rattle.portlog.proofs.Picked.{picked}
+use Rattle.log_record.proofs.Picked.{picked}
 use Rattle.theorems.proofs.BoundsReading.{LeafTo, Leaf, bind, also-fourth, into, either, Any, some-leaf, unknown-code, of-byte, of-word, any-byte, of-immediate, of-signedByte, of-allow, of-place, of-memory, of-plainPlace, Fine, ok, of-withPlace, of-withMemory, of-withAcc, of-withByte, of-withWord, of-withShort, of-withFar, Rows, of-lookUp, both, leaf, stop, none-more, _also_}
 
 -- ---- the codes after 0F
@@ -64,13 +64,13 @@ of-secondBytes p =
 
 -- ---- groups behind a first byte
 
-of-smallImmediate : (n : ℕ) → Leaf Any (smallImmediate n)
+of-smallImmediate : (b : ℕ) → Leaf Any (smallImmediate b)
 unfolding smallImmediate
-of-smallImmediate n = either (eqb n 1) of-word (either (eqb n 3) of-signedByte any-byte)
+of-smallImmediate b = either (eqb b 0x81) of-word (either (eqb b 0x83) of-signedByte any-byte)
 
-of-withImmediate : (p : Prefixes) (n : ℕ) → Leaf Fine (withImmediate p n)
+of-withImmediate : (p : Prefixes) (b : ℕ) → Leaf Fine (withImmediate p b)
 unfolding withImmediate
-of-withImmediate p n = of-withPlace p _ λ reg a. into _ (of-smallImmediate n) λ v. ok
+of-withImmediate p b = of-withPlace p _ λ reg a. into _ (of-smallImmediate b) λ v. ok
 
 of-withShift : (o : Option Shift) (k : Shift → Reading Instr) → ((s : Shift) → Leaf Fine (k s)) → Leaf Fine (withShift o k)
 unfolding withShift

@@ -1,6 +1,6 @@
 -- No step drops more than 518 bytes, PREPARE's 256 words and the three of the single-step trap, and no interrupt call more than 6.
 use Prim.Native.Nat.{ℕ, zero, suc, _+_, _*_, _≤_}
-use mathlib.Core.Path.{_≡_, refl}
+use mathlib.Core.Path.{_≡_}
 use mathlib.Core.Bool.{Bool, true, false}
 use mathlib.Core.List.{List, [], _∷_}
 use native.Mathlib.Nat.{le-refl, add-zero, mul-le-mul-right}
@@ -31,17 +31,17 @@ use Rattle.sheet.specs.declared.Way.{Way}
 use Rattle.sheet.specs.declared.Way.the-variants.{Addition, Subtraction}
 use Rattle.sheet.specs.declared.Storing.{Storing}
 use Rattle.sheet.specs.declared.Storing.the-variants.{Stored, NotStored}
-use Rattle.sheet.specs.Decimal.{stores, link, chained, string}
+use Rattle.sheet.specs.Decimal.{stores, link, chained, string, decimal}
 use Rattle.sheet.specs.Traps.{push, pushPsw, pushPsPc, save, trap}
 use Rattle.sheet.specs.Stack.{frame, frames, prepare, stack}
-use Rattle.sheet.specs.Execute.{decimal, computing, moving, operation, execute}
+use Rattle.sheet.specs.Execute.{computing, moving, operation, execute}
 use Rattle.sheet.specs.Reading.{known}
 use Rattle.sheet.specs.Step.{interrupting, singleStep, starting, stepping, step, interrupt}
 use Rattle.sheet.proofs.Lifted.{lost-bytes}
 use Rattle.sheet.proofs.StepLaws.{begins, enters}
 use Rattle.theorems.specs.Bounds.{Bytes, dropTop, interruptDropTop}
 use Rattle.theorems.proofs.Dropped.{Honest, honest, two-a-cycle}
-use Rattle.theorems.proofs.BoundsRules.{Within, within, short-of, cycles, dropped, MostOf, Drops, loud, any, seq, up, either-way, of-pure, of-get, of-registers, of-set, of-flag, of-psw, of-flags, of-halted, of-loop}
+use Rattle.theorems.proofs.BoundsRules.{Within, within, short-of, cycles, dropped, MostOf, Drops, loud, seq, up, either-way, of-pure, of-get, of-registers, of-set, of-flag, of-psw, of-flags, of-halted, of-loop}
 use Rattle.theorems.proofs.BoundsOperands.{of-jumpFar}
 use Rattle.theorems.proofs.BoundsGroups.{of-transfer, of-calculate, of-untrapped, of-multiply, of-convert, of-shift, of-bits, of-rol4, of-ror4, half-of-cl, of-field}
 use Rattle.theorems.proofs.BoundsFlow.{levelOf, of-stack, of-branch, of-conditional, of-interrupts, of-block, of-ports, of-control}

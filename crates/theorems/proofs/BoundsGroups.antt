@@ -37,10 +37,9 @@ use Rattle.sheet.specs.Registers.{CL, readReg}
 use Rattle.sheet.specs.Act.{Act, _>>=_}
 use Rattle.sheet.specs.Operand.{deposit, regValue}
 use Rattle.sheet.specs.Transfer.{mov, loadAcc, storeAcc, toSegment, fromSegment, loadPointer, ahFromPsw, pswFromAh, ldea, trans, xch, transfer}
-use Rattle.sheet.specs.Arithmetic.{Result, finish, operate, conclude, two, test, one}
-use Rattle.sheet.specs.Multiply.{setProduct, multiplied, mulu, mul, mulBy, setQuotient, divided, divu, div}
-use Rattle.sheet.specs.Convert.{cvtbd, cvtdb, cvtbw, cvtwl}
-use Rattle.sheet.specs.Convert as converting
+use Rattle.sheet.specs.Arithmetic.{Result, finish, operate, conclude, two, test, one, calculate}
+use Rattle.sheet.specs.Multiply.{setProduct, multiplied, mulu, mul, mulBy, setQuotient, divided, divu, div, multiply}
+use Rattle.sheet.specs.Convert.{setConverted, cvtbd, cvtdb, cvtbw, cvtwl, convert}
 use Rattle.sheet.specs.Shift.{carryIn, shiftBy, shift}
 use Rattle.sheet.specs.Bits.{bitDone, bits}
 use Rattle.sheet.specs.declared.Way.{Way}
@@ -48,10 +47,9 @@ use Rattle.sheet.specs.declared.Way.the-variants.{Addition, Subtraction}
 use Rattle.sheet.specs.declared.Storing.{Storing}
 use Rattle.sheet.specs.declared.Storing.the-variants.{Stored, NotStored}
 use Rattle.sheet.specs.Adjust.{adj4, adjb}
-use Rattle.sheet.specs.Decimal.{stores, link, chained, string, rol4, ror4}
-use Rattle.sheet.specs.Fields.{lengthOf, advance, insertInto, firstPart, secondPart, ins, window, ext}
+use Rattle.sheet.specs.Decimal.{stores, link, chained, string, rol4, ror4, decimal}
+use Rattle.sheet.specs.Fields.{lengthOf, advance, insertInto, firstPart, secondPart, ins, window, ext, field}
 use Rattle.sheet.specs.Traps.{untrapped}
-use Rattle.sheet.specs.Execute.{calculate, multiply, convert, decimal, field}
 use Rattle.theorems.proofs.BoundsRules.{Measure, Bound, Most, seq, any, up, either-way, of-pure, of-get, of-registers, of-set, of-flag, of-psw, of-flags, of-peek, of-poke, of-peek-byte, of-poke-byte, of-loop}
 use Rattle.theorems.proofs.BoundsOperands.{of-regValue, of-setReg, of-locate, of-fetch, of-deposit, of-valueAt, of-sourceValue, of-pairAt, of-amountOf, of-trap}
 
@@ -154,8 +152,8 @@ of-adjb : (way : Way) → Most Unit (adjb way) 0
 unfolding adjb
 of-adjb way = seq of-registers λ r. seq of-flag λ ac. seq of-flags λ _. of-set
 
-of-converted : (ah al : ℕ) → Most Unit (converting.convert ah al) 0
-unfolding converting.convert
+of-converted : (ah al : ℕ) → Most Unit (setConverted ah al) 0
+unfolding setConverted
 of-converted ah al = seq of-flags λ _. of-set
 
 pub of-convert : (i : Convert) → Most Unit (convert i) 0

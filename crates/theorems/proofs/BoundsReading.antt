@@ -22,7 +22,7 @@ use Rattle.sheet.specs.Reading.{Reading, got, need, no, _>>=_, Read, known, unk
 use Rattle.sheet.specs.Encoding.{modField, memField, displacement, withDisplacement, withOffset, address, inMemory, place, memory, Row, covers, lookUp}
 use Rattle.sheet.specs.SecondByte.{plainPlace}
 use Rattle.sheet.specs.FirstByte.{withPlace, withMemory, withAcc, withByte, withWord, withShort, withFar}
-use Rattle.portlog.proofs.Picked.{picked}
+use Rattle.log_record.proofs.Picked.{picked}
 use Rattle.theorems.proofs.BoundsFlow.{levelOf}
 
 -- Q holds of all that a reading of bytes up to 255 comes to, and its refusals are from 3 up to a top: 4 with prefixes, 3 without
@@ -194,7 +194,7 @@ infixr 30 _also_
 pub of-lookUp : (t : List Row) → Rows t → (b : ℕ) → Leaf Fine (lookUp t b)
 unfolding lookUp
 of-lookUp [] none-more b = unknown-code
-of-lookUp (r ∷ t) (x also y) b = either (covers r b) (x (b - r .from)) (of-lookUp t y b)
+of-lookUp (r ∷ t) (x also y) b = either (covers r b) (x b) (of-lookUp t y b)
 
 pub both : {s t : List Row} → Rows s → Rows t → Rows (s ++ t)
 both none-more y = y

@@ -17,7 +17,7 @@ use Rattle.sheet.specs.Act.{Act, pure, get, flags, _>>=_, registers, _≔_, fla
 use Rattle.sheet.specs.Handler.{Event, Access, short, through, recording, inputs, outputs, ported, done, then, takes, gives, nothing, _⊕_, run, runBy, tally}
 use Rattle.sheet.specs.Contract.{Seen, stops, ends, seen, exec, Ends}
 use Rattle.sheet.proofs.Rules.{plus, andThen, exec-bind, ends-pure, ends-registers, ends-set, ends-flag, ends-psw, ends-flags, ends-halted}
-use Rattle.portlog.proofs.Picked.{picked}
+use Rattle.log_record.proofs.Picked.{picked}
 use Rattle.theorems.proofs.Quiet.{Quiet, q-pure, q-get, q-put, q-ask, q-copy, q-flags, q-load, q-store, q-halt, quiet-seq}
 
 -- a number that adds up over accesses

@@ -27,7 +27,7 @@ use Rattle.sheet.specs.Act.{_>>=_}
 use Rattle.sheet.specs.Traps.{push, pushPsw, pushPsPc, jumpFar, save, trap}
 use Rattle.theorems.specs.Repeat.{ofMemory}
 use Rattle.theorems.specs.Bounds.{Bytes, stepTop, interruptTop, stepRefusals, interruptRefusals, Among, first, later, Comes, ends-in, stops-by}
-use Rattle.portlog.proofs.Picked.{picked}
+use Rattle.log_record.proofs.Picked.{picked}
 use Rattle.engine.proofs.Laws.{awake-known}
 use Rattle.engine.proofs.RunLaws.{step-on}
 use Rattle.theorems.proofs.Widths.{byte-top}

@@ -12,11 +12,12 @@ use Rattle.sheet.specs.Handler.{nothing}
 use Rattle.sheet.specs.Contract.{Report, report}
 use Rattle.sheet.specs.Step.{reset}
 use Rattle.sheet.specs.Run.{RunReport, runReported}
-use Rattle.portlog.specs.declared.Put.{Put}
-use Rattle.portlog.specs.declared.Put.the-variants.{Done, Full, Beyond}
-use Rattle.portlog.specs.Put.{putNumber, putCount, Logs}
-use Rattle.logreader.specs.Answer.{Answers}
-use Rattle.calls.specs.Calls.{Interrupts}
+use Rattle.log_record.specs.declared.Put.{Put}
+use Rattle.log_record.specs.declared.Put.the-variants.{Done, Full, Beyond}
+use Rattle.log_record.specs.Put.{putNumber, putCount, Logs}
+use Rattle.sheet.specs.declared.GapRule.{GapRule}
+use Rattle.log_reader.specs.Answer.{Answers}
+use Rattle.step_calls.specs.Calls.{Interrupts}
 use Rattle.engine.specs.Steps.{Steps}
 use Rattle.engine.specs.Runs.{Runs}
 use Rattle.theorems.specs.StandIns.{subtracting, subtracted, asleep}
@@ -64,7 +65,7 @@ pub reset-once : {s s₂ : State} → s ≡ reset → s₂ ≡ reset → s ≡ s
 reset-once e f = e ∙ sym f
 
 -- what the log reader answers at a place
-pub entry-once : {log : List ℕ} {at : ℕ} {e e₂ : Entry} → Answers log at e → Answers log at e₂ → e ≡ e₂
+pub entry-once : {g : GapRule} {log : List ℕ} {at : ℕ} {e e₂ : Entry} → Answers g log at e → Answers g log at e₂ → e ≡ e₂
 entry-once x y = x .answer ∙ sym (y .answer)
 
 -- the log's writer: an answer is its number and its count of bytes

@@ -19,13 +19,15 @@ use Rattle.sheet.specs.Act.{_>>=_}
 use Rattle.sheet.specs.World.{World}
 use Rattle.sheet.specs.Handler.{Event, done, runBy, nothing, tally}
 use Rattle.sheet.specs.Contract.{Report, report}
-use Rattle.sheet.specs.Log.{rule, entryOf, readLog, entryNumber}
+use Rattle.sheet.specs.declared.GapRule.{GapRule}
+use Rattle.sheet.specs.Log.{entryOf, readLog, entryNumber}
 use Rattle.sheet.specs.Traps.{push, pushPsw, pushPsPc, jumpFar, save, trap}
 use Rattle.sheet.specs.Step.{fits, sound, awake, stepBy, step, stepReport, interrupting, interruptBy, interrupt, interruptReport}
 use Rattle.sheet.proofs.SmallTable.{small-table}
-use Rattle.portlog.proofs.Vectors.{sample-first}
+use Rattle.log_record.proofs.Vectors.{sample-first}
 use Rattle.theorems.specs.Bounds.{Bytes}
-use Rattle.theorems.specs.StandIns.{every, lendable, MeetsStep, MeetsInterrupt, MeetsReader, numberOf, worldOf, busOf, subtracting, subtracted, adjusting, adjusted, asleep, callable, entered, masked, sampleLog}
+use Rattle.sheet.specs.Lendable.{every, lendable}
+use Rattle.theorems.specs.StandIns.{MeetsStep, MeetsInterrupt, MeetsReader, numberOf, worldOf, busOf, subtracting, subtracted, adjusting, adjusted, asleep, callable, entered, masked, sampleLog}
 
 -- ---- buffers
 
@@ -134,18 +136,18 @@ module _ (engine : ℕ → Bool → World → Report) (meets : MeetsInterrupt en
 
 -- ---- the log reader
 
-first-record : readLog rule sampleLog 0 ≡ entry.Record 5 385 0x41 4
+first-record : (g : GapRule) → readLog g sampleLog 0 ≡ entry.Record 5 385 0x41 4
 unfolding readLog entryOf
-first-record = ap (entryOf 0) sample-first
+first-record g = ap (entryOf 0) (sample-first g)
 
-past-the-end : readLog rule sampleLog 10 ≡ entry.Beyond
+past-the-end : (g : GapRule) → readLog g sampleLog 10 ≡ entry.Beyond
 unfolding readLog
-past-the-end = refl
+past-the-end g = refl
 
--- not one number for all, and so not one answer
-pub reader-not-fixed : (reader : List ℕ → ℕ → Entry) → MeetsReader reader → (n : ℕ) → ((log : List ℕ) (at : ℕ) → every 255 log ≡ true → entryNumber (reader log at) ≡ n) → ⊥
-reader-not-fixed reader meets n h =
-    let first = sym (meets sampleLog 0 refl) ∙ first-record in
-    let last = sym (meets sampleLog 10 refl) ∙ past-the-end in
+-- not one number for all logs of a rule, and so not one answer
+pub reader-not-fixed : (reader : GapRule → List ℕ → ℕ → Entry) → MeetsReader reader → (g : GapRule) (n : ℕ) → ((log : List ℕ) (at : ℕ) → every 255 log ≡ true → entryNumber (reader g log at) ≡ n) → ⊥
+reader-not-fixed reader meets g n h =
+    let first = sym (meets g sampleLog 0 refl) ∙ first-record g in
+    let last = sym (meets g sampleLog 10 refl) ∙ past-the-end g in
     let x : _≡_ {A = ℕ} 0 2 = shared entryNumber first last (h sampleLog 0 refl) (h sampleLog 10 refl) in
     omega arith

@@ -12,7 +12,7 @@ use Rattle.sheet.specs.Memory.{readMem, writeMem, lostBytes}
 use Rattle.sheet.specs.World.{World, withState, withRam, pswOf, withFile, withPsw, withHalted}
 use Rattle.sheet.specs.Act.{Act, pure, refuse, get, put, ask, copy, flags, load, store, input, output, halt}
 use Rattle.sheet.specs.Handler.{Access, short, through, inputs, outputs, Event, reads, writes, takes, gives, asks, copies, changes, Outcome, refused, done, then, ported, kept, runBy, happened, cost, tally}
-use Rattle.sheet.specs.Reach.{Each}
+use Rattle.sheet.proofs.Reach.{Each}
 use Rattle.sheet.specs.Step.{interrupting, starting, stepping, step, interrupt}
 use Rattle.sheet.proofs.StepLaws.{begins, enters}
 use Rattle.sheet.proofs.Lifted.{lost-bytes, bytes-fair}

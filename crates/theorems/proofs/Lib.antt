@@ -29,10 +29,12 @@ pub mod BoundsDropped
 pub mod Calls
 pub mod CallsStandIns
 pub mod CallsCode
+pub mod CallsTaken
 pub mod Runs
 pub mod RunsStandIns
 pub mod RunsCode
 pub mod HeldOff
+pub mod Count
 pub mod LogCode
 pub mod Outcomes
 pub mod RunsFirst

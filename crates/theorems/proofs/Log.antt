@@ -6,16 +6,16 @@ use mathlib.Core.List.{List, [], _∷_, _++_, append-nil, append-assoc}
 use native.Mathlib.Omega.{arith}
 use lib.ListN.{length, take, drop, length-append}
 use lib.Seq.{length-take-le}
-use Rattle.sheet.specs.Log.{rule, risen, keyOf, writeLog}
+use Rattle.sheet.specs.Log.{ceiling, rule, risen, keyOf, writeLog}
 use Rattle.sheet.specs.World.{World}
 use Rattle.sheet.specs.Handler.{Event, reads, writes, takes, gives, asks, copies, changes, Outcome, refused, done, kept, runBy}
 use Rattle.sheet.specs.Step.{step, starting, stepping}
 use Rattle.sheet.proofs.StepLaws.{begins}
 use Rattle.sheet.proofs.Replay.{Track, trackOf, logged, effect, replay, Replays, replays, replays-all}
-use Rattle.portlog.specs.Whole.{Row, AllSound, rowBytes, logBytes, at-end, Reads}
-use Rattle.portlog.proofs.Whole.{rule-able, written-read}
-use Rattle.portlog.proofs.Growth.{log-grows}
-use Rattle.theorems.specs.StandIns.{lendable}
+use Rattle.log_record.specs.Whole.{Row, AllSound, rowBytes, logBytes, at-end, Reads}
+use Rattle.log_record.proofs.Whole.{written-read}
+use Rattle.log_record.proofs.Growth.{log-grows}
+use Rattle.sheet.specs.Lendable.{lendable}
 use Rattle.theorems.specs.Rows.{Use, none, access, useOf, rowOf, rowsOfUse, sinceUse, rowsOf, since, rowsAlong, sinceAlong, stepsFrom, worldAfter}
 use Rattle.theorems.proofs.PortOnce.{AtMostOne, no-row, one-row, step-row}
 
@@ -25,7 +25,7 @@ use Rattle.theorems.proofs.PortOnce.{AtMostOne, no-row, one-row, step-r
 pub record Used (n : ℕ) (rs : List Row) (x : Track) : Type 0 where
   pub within : x .at ≤ length (x .log)
   pub same : take (x .at) (x .log) ≡ logBytes rule rs
-  pub count : x .count ≡ min n (rule .ceiling)
+  pub count : x .count ≡ min n (ceiling rule)
 
 one-more : (n : ℕ) (rs : List Row) (r : Row) (m : ℕ) (x : Track) → Used n rs x → Used 0 (rs ++ (r ∷ [])) (logged (rowBytes rule r) m x)
 unfolding writeLog
@@ -45,8 +45,8 @@ unused {rs = rs} u a l c = record { within = rw (a, l) (u .within); same = rw (a
 used-event : (e : Event) (n : ℕ) (rs : List Row) (x : Track) → Used n rs x → Used (sinceUse n (useOf e)) (rs ++ rowsOfUse n (useOf e)) (effect e x)
 used-event (reads b g o) n rs x u = unused u refl refl refl
 used-event (writes b g o v d) n rs x u = unused u refl refl refl
-used-event (takes b p v) n rs x u = rw (u .count) (one-more n rs (rowOf (min n (rule .ceiling)) (keyOf false b p) v) _ x u)
-used-event (gives b p v) n rs x u = rw (u .count) (one-more n rs (rowOf (min n (rule .ceiling)) (keyOf true b p) v) 0 x u)
+used-event (takes b p v) n rs x u = rw (u .count) (one-more n rs (rowOf (min n (ceiling rule)) (keyOf false b p) v) _ x u)
+used-event (gives b p v) n rs x u = rw (u .count) (one-more n rs (rowOf (min n (ceiling rule)) (keyOf true b p) v) 0 x u)
 used-event (asks f) n rs x u = unused u refl refl refl
 used-event (copies b) n rs x u = unused u refl refl refl
 used-event (changes c) n rs x u = unused u refl refl refl
@@ -61,7 +61,7 @@ used-events (e ∷ t) n rs x u =
 
 -- ---- a step
 
-track-left : {A : Type 0} {x : Track} {a : A} {v : World} {t : List Event} → Replays {A = A} x (done a v t) → trackOf v ≡ replay t x
+pub track-left : {A : Type 0} {x : Track} {a : A} {v : World} {t : List Event} → Replays {A = A} x (done a v t) → trackOf v ≡ replay t x
 track-left (replays h) = h
 
 -- the count is that of the finished steps, up to the ceiling
@@ -75,7 +75,7 @@ unfolding step starting
 step-log w v t n rs e u =
     let a = begins kept w v t e in
     let r = rw (a .ran) at (replays-all (stepping (a .instr) (a .size)) kept (starting (a .instr) w)) in
-    let c : risen rule (w .state .progress .count) ≡ min (n + 1) (rule .ceiling) = rw (u .count) (min-risen n (rule .ceiling)) in
+    let c : risen rule (w .state .progress .count) ≡ min (n + 1) (ceiling rule) = rw (u .count) (min-risen n (ceiling rule)) in
     subst (Used (since (n + 1) t) (rs ++ rowsOf (n + 1) t)) (sym (track-left r))
     (used-events t (n + 1) rs (trackOf (starting (a .instr) w)) (record { within = u .within; same = u .same; count = c }))
 
@@ -116,4 +116,4 @@ run-log (suc k) w n rs h l = go (step w) refl (λ v m qs. run-log k v m qs)
 
 -- the used part is read back to the same records
 pub used-read : (n : ℕ) (rs : List Row) (w : World) → Logged n rs w → Reads rule (take (w .state .progress .log) (w .log)) 0 rs at-end
-used-read n rs w l = subst (λ q. Reads rule q 0 rs at-end) (sym (l .used .same)) (written-read rule rule-able rs (l .sound))
+used-read n rs w l = subst (λ q. Reads rule q 0 rs at-end) (sym (l .used .same)) (written-read rule rs (l .sound))

@@ -16,8 +16,8 @@ use Rattle.sheet.specs.Traps.{push, pushPsw, pushPsPc, jumpFar, save, trap}
 use Rattle.sheet.specs.Step.{fits, sound, step, stepBy, stepReport, interrupting, interrupt, interruptReport, reset}
 use Rattle.sheet.specs.Run.{FinishedStep, begunIn, Ran, ran, more, onward, stepsBy, runsBy, runs, runReported, ranReport}
 use Rattle.sheet.proofs.StepLaws.{enters}
-use Rattle.portlog.specs.Whole.{Row, AllSound, logBytes, at-end, Reads, ends, meets}
-use Rattle.theorems.specs.StandIns.{lendable}
+use Rattle.log_record.specs.Whole.{Row, AllSound, logBytes, at-end, Reads, ends, meets}
+use Rattle.sheet.specs.Lendable.{lendable}
 use Rattle.theorems.specs.RepeatCode.{StepCall, step-call, InterruptCall, interrupt-call}
 use Rattle.theorems.specs.Rows.{rowsOf, since, rowsAlong, sinceAlong, leading, finished, stepsFrom, worldAfter}
 use Rattle.theorems.specs.LogCode.{RunCall, run-call, Called, nothing-yet, then-step, then-run, then-interrupt, ReadBack, all-read, read-then}

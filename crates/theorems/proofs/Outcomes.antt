@@ -18,7 +18,8 @@ use Rattle.sheet.specs.declared.Entry.the-variants as entry
 use Rattle.sheet.specs.Width.{pick}
 use Rattle.sheet.specs.Psw.{IE, flagOf, fixedOf}
 use Rattle.sheet.specs.Registers.{PS, PC, fileOf}
-use Rattle.sheet.specs.Log.{rule, recordAt, entryOf, readLog}
+use Rattle.sheet.specs.declared.GapRule.{GapRule}
+use Rattle.sheet.specs.Log.{ceiling, rule, recordAt, entryOf, readLog}
 use Rattle.sheet.specs.World.{World, pswOf}
 use Rattle.sheet.specs.Handler.{Outcome, refused, done, kept, run, runBy}
 use Rattle.sheet.specs.Contract.{Seen, stops, seen}
@@ -27,8 +28,8 @@ use Rattle.sheet.specs.Reading.{Read, known, unknown, scan}
 use Rattle.sheet.specs.Encoding.{Prefix, unprefixed, withPrefix, prefixOf, lookUp}
 use Rattle.sheet.specs.FirstByte.{firstBytes, afterPrefix, prefixed, instruction}
 use Rattle.sheet.specs.Step.{fits, placesGood, sound, refusal, source, codeAt, starting, stepping, decoded, awake, stepBy, step, interrupting, interruptBy, interrupt, instructionIn}
-use Rattle.portlog.proofs.Records.{end-empty}
-use Rattle.portlog.proofs.Whole.{end-read}
+use Rattle.log_record.proofs.Records.{end-empty}
+use Rattle.log_record.proofs.Whole.{end-read}
 use Rattle.theorems.specs.Bounds.{Bytes}
 use Rattle.theorems.specs.Rows.{Use}
 use Rattle.theorems.specs.Access.{accessOf, tapeNeed, logNeed}
@@ -50,10 +51,10 @@ data Checked (w : World) : Bool → Bool → Type 0 where
 
 unsound-of : (w : World) → sound w ≡ false → Unsound w
 unfolding sound
-unsound-of w e = go (fixedOf (pswOf (w .state))) (leb (w .state .progress .tape) (length (w .tape))) (leb (w .state .progress .log) (length (w .log))) (leb (w .state .progress .count) (rule .ceiling)) (w .state .marks .halted && w .state .marks .loaded) refl refl refl refl refl e
+unsound-of w e = go (fixedOf (pswOf (w .state))) (leb (w .state .progress .tape) (length (w .tape))) (leb (w .state .progress .log) (length (w .log))) (leb (w .state .progress .count) (ceiling rule)) (w .state .marks .halted && w .state .marks .loaded) refl refl refl refl refl e
   where
     go : (a b c d m : Bool) → fixedOf (pswOf (w .state)) ≡ a → leb (w .state .progress .tape) (length (w .tape)) ≡ b → leb (w .state .progress .log) (length (w .log)) ≡ c
-        → leb (w .state .progress .count) (rule .ceiling) ≡ d → (w .state .marks .halted && w .state .marks .loaded) ≡ m → (a && ((b && (c && d)) && not m)) ≡ false → Unsound w
+        → leb (w .state .progress .count) (ceiling rule) ≡ d → (w .state .marks .halted && w .state .marks .loaded) ≡ m → (a && ((b && (c && d)) && not m)) ≡ false → Unsound w
     go false b c d m p q r s x z = fixed-bit p
     go true false c d m p q r s x z = tape-place (leb-false _ _ q)
     go true true false d m p q r s x z = log-place (leb-false _ _ r)
@@ -88,7 +89,7 @@ sound-not w (fixed-bit e) = rw e
 sound-not w (tape-place h) = rw (lt-leb (w .state .progress .tape) (length (w .tape)) h) (and-false (fixedOf (pswOf (w .state))))
 sound-not w (log-place h) = rw (lt-leb (w .state .progress .log) (length (w .log)) h, and-false (leb (w .state .progress .tape) (length (w .tape)))) (and-false (fixedOf (pswOf (w .state))))
 sound-not w (marked-and-halted h) = rw (h, and-false (placesGood (w .state) (w .tape) (w .log))) (and-false (fixedOf (pswOf (w .state))))
-sound-not w (count-over h) = rw (lt-leb (w .state .progress .count) (rule .ceiling) h, and-false (leb (w .state .progress .log) (length (w .log))), and-false (leb (w .state .progress .tape) (length (w .tape)))) (and-false (fixedOf (pswOf (w .state))))
+sound-not w (count-over h) = rw (lt-leb (w .state .progress .count) (ceiling rule) h, and-false (leb (w .state .progress .log) (length (w .log))), and-false (leb (w .state .progress .tape) (length (w .tape)))) (and-false (fixedOf (pswOf (w .state))))
 
 sound-so : (w : World) → Passes w → sound w ≡ true
 unfolding sound
@@ -254,23 +255,23 @@ module _ (x : ℕ) (m : Bool) (w : World) where
 
 -- ---- the reading of a log
 
-module _ (log : List ℕ) (at : ℕ) where
-  pub read-is-of : ReadOf log at (readLog rule log at)
+module _ (g : GapRule) (log : List ℕ) (at : ℕ) where
+  pub read-is-of : ReadOf g log at (readLog g log at)
   unfolding readLog entryOf
-  read-is-of = go (leb at (length log)) (recordAt rule (drop at log)) refl refl
+  read-is-of = go (leb at (length log)) (recordAt g (drop at log)) refl refl
     where
-      go : (t : Bool) (f : Found) → leb at (length log) ≡ t → recordAt rule (drop at log) ≡ f → ReadOf log at (pick t (entryOf at f) entry.Beyond)
+      go : (t : Bool) (f : Found) → leb at (length log) ≡ t → recordAt g (drop at log) ≡ f → ReadOf g log at (pick t (entryOf at f) entry.Beyond)
       go false f e q = beyond (leb-false at (length log) e)
       go true (found.Record gap key value n) e q = met (leb-true at (length log) e) q
       go true found.Faulty e q = malformed (leb-true at (length log) e) q
       go true found.End e q =
           let l = leb-true at (length log) e in
-          let z : at ≡ length log = omega (arith, end-empty rule (drop at log) q, length-drop at log) in
+          let z : at ≡ length log = omega (arith, end-empty g (drop at log) q, length-drop at log) in
           at-end z
 
-  pub read-only : {e : Entry} → ReadOf log at e → readLog rule log at ≡ e
+  pub read-only : {e : Entry} → ReadOf g log at e → readLog g log at ≡ e
   unfolding readLog entryOf
   read-only (beyond l) = rw (lt-leb at (length log) l)
   read-only (malformed h q) = rw (le-leb at (length log) h, q)
-  read-only (at-end e) = end-read rule log at e
+  read-only (at-end e) = end-read g log at e
   read-only (met h q) = rw (le-leb at (length log) h, q)

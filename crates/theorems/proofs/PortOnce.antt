@@ -8,7 +8,7 @@ use native.Mathlib.Nat.{add-zero}
 use native.Mathlib.Omega.{arith}
 use lib.ListN.{length, getD, set}
 use lib.Seq.{getD-set-other}
-use lib.Dec.{eqb, leb, ltb, lit≤}
+use lib.Dec.{eqb, leb, ltb}
 use borrow.Author.Tests.{leb-true, leb-false}
 use Rattle.sheet.specs.declared.Instr.{Instr}
 use Rattle.sheet.specs.declared.Instr.the-variants.{Computes, Moves, Multiplies, Interrupts, Blocks, Ports, Controls}
@@ -35,11 +35,11 @@ use Rattle.sheet.specs.Traps.{untrapped}
 use Rattle.sheet.specs.Execute.{operation, execute}
 use Rattle.sheet.specs.Step.{fits, placesGood, sound, starting, stepping, step}
 use Rattle.sheet.proofs.StepLaws.{Stepped, begins}
-use Rattle.portlog.specs.Whole.{Row, Sound}
-use Rattle.portlog.proofs.Growth.{access-sound}
-use Rattle.portlog.proofs.Picked.{picked}
+use Rattle.log_record.specs.Whole.{Row, Sound}
+use Rattle.log_record.proofs.Growth.{access-sound}
+use Rattle.log_record.proofs.Picked.{picked}
 use Rattle.theorems.specs.Repeat.{reg, repeats}
-use Rattle.theorems.specs.StandIns.{lendable}
+use Rattle.sheet.specs.Lendable.{lendable}
 use Rattle.theorems.specs.Rows.{Use, none, access, rowsOfUse, rowsOf}
 use Rattle.theorems.specs.Access.{takenBy, ofIo, ofPrimitive, accessOf, tapeNeed, logNeed}
 use Rattle.theorems.specs.Outcomes.{Passes}
@@ -357,7 +357,7 @@ module _ (w : World) (h : Holds w) where
 
 one-sound : (n : ℕ) (due : Use) → InWidth due → AtMostOne (rowsOfUse (n + 1) due)
 one-sound n none no-access = no-row
-one-sound n (access out b port v) (in-width h g) = one-row (access-sound rule n port v out b (lit≤ tt) h g)
+one-sound n (access out b port v) (in-width h g) = one-row (access-sound rule n port v out b h g)
 
 -- AT MOST ONE RECORD A STEP, of a gap from 1 up to the ceiling, and a key and a value in their widths
 pub step-row : (w v : World) (t : List Event) → lendable w ≡ true → step w ≡ done tt v t → (n : ℕ) → AtMostOne (rowsOf (n + 1) t)

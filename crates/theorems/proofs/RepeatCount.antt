@@ -4,7 +4,7 @@ use native.Mathlib.Nat.{le-of-suc-le-suc, not-suc-le-zero}
 use mathlib.Core.Bool.{Bool, true, false}
 use mathlib.Core.Path.{_≡_, refl}
 use Rattle.sheet.specs.Width.{pick}
-use Rattle.portlog.proofs.Picked.{picked}
+use Rattle.log_record.proofs.Picked.{picked}
 use Rattle.theorems.specs.Repeat.{firstOr}
 
 pub firstOr-le : (n : ℕ) (f : ℕ → Bool) → firstOr n f ≤ n

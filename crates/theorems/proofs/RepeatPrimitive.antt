@@ -20,7 +20,7 @@ use Rattle.sheet.specs.Operand.{regValue, setReg}
 use Rattle.sheet.specs.Arithmetic.{difference}
 use Rattle.sheet.specs.Block.{stepIndex, sourceElement, targetElement, setTarget, primitive}
 use Rattle.sheet.specs.Handler.{Event, reads, writes, asks, changes, Outcome, refused, done, kept, runBy, run, happened}
-use Rattle.sheet.specs.Reach.{Covers, Within, Spares}
+use Rattle.sheet.proofs.Reach.{Covers, Within, Spares}
 use Rattle.sheet.proofs.Lent.{Leaves, leaves, writeMem-length}
 use Rattle.sheet.proofs.Rests.{Same, same-refused, same-done, rests, HoldsAt, spared}
 use Rattle.theorems.specs.Repeat.{ofMemory, hasSource, hasTarget, writesTarget, placed}

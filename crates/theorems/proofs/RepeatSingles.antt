@@ -13,7 +13,7 @@ use Rattle.sheet.specs.Registers.{CW, IX, IY, DS1, PS, PC, fileOf, segment}
 use Rattle.sheet.specs.Memory.{byteAt}
 use Rattle.sheet.specs.World.{World, pswOf}
 use Rattle.sheet.specs.Handler.{done}
-use Rattle.sheet.specs.Reach.{Covers}
+use Rattle.sheet.proofs.Reach.{Covers}
 use Rattle.sheet.specs.Step.{codeAt}
 use Rattle.theorems.specs.Repeat.{Block, ofMemory, hasSource, hasTarget, writesTarget, single, left, singles, reg, walk, InElement, low, high, InSource, InTarget, NeverOnItself}
 use Rattle.theorems.proofs.RepeatFile.{Keeps, keeps-all, keeps-then, keeps-segment, made-keeps, Moves, made-ix, made-iy}

@@ -21,7 +21,7 @@ use Rattle.sheet.specs.Branch.{countDown}
 use Rattle.sheet.specs.Traps.{untrapped}
 use Rattle.sheet.specs.Execute.{operation, execute}
 use Rattle.sheet.specs.Step.{loadsSegment, singleStep, stepping}
-use Rattle.portlog.proofs.Picked.{picked}
+use Rattle.log_record.proofs.Picked.{picked}
 use Rattle.theorems.specs.Repeat.{kindOf, repeats, meets, ends}
 use Rattle.theorems.specs.RepeatEngines.{accesses}
 use Rattle.theorems.proofs.RepeatRuns.{Runs, runs-then}

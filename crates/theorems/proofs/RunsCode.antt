@@ -17,7 +17,7 @@ use Rattle.engine.specs.Steps.{Steps}
 use Rattle.engine.specs.Runs.{Runs}
 use Rattle.theorems.specs.Bounds.{Bytes}
 use Rattle.theorems.specs.Runs.{Walk, none, step-then, spent, stopped}
-use Rattle.theorems.specs.RunsCode.{Called, no-call, call-then}
+use Rattle.theorems.specs.RunsCode.{StepsCalled, no-call, call-then}
 use Rattle.theorems.proofs.Calls.{stops-at, step-done}
 use Rattle.theorems.proofs.Runs.{walk-long, run-only, stopped-keeps, run-splits-report}
 use Rattle.engine.proofs.RunLaws.{as-refused}
@@ -31,7 +31,7 @@ record Walked (w v : World) (k : ℕ) (b : Bus) : Type 0 where
   sum : tallyAll steps ≡ b
   most : b .cycles ≤ 1028 * k
 
-walked : (rom tape : List ℕ) → Bytes rom → (k : ℕ) (s v : State) (ram ram₂ log log₂ : List ℕ) (b : Bus) → Called rom tape s ram log k v ram₂ log₂ b
+walked : (rom tape : List ℕ) → Bytes rom → (k : ℕ) (s v : State) (ram ram₂ log log₂ : List ℕ) (b : Bus) → StepsCalled rom tape s ram log k v ram₂ log₂ b
     → Walked (world s ram rom tape log) (world v ram₂ rom tape log₂) k b
 unfolding tallyAll
 walked rom tape h zero s v ram ram₂ log log₂ b no-call = record { steps = []; walk = none; sum = refl; most = le-refl 0 }
@@ -50,7 +50,7 @@ refuses w v n b e h = as-refused (step w) n (stops-at w v (seen (step w)) n b e 
 -- ---- a run is its single calls
 
 module _ {s v : State} {ram rom tape log ram′ log′ : List ℕ} {k : ℕ} {b : Bus} (bytes : Bytes rom)
-    (fit : fits (world s ram rom tape log) ≡ true) (good : sound (world s ram rom tape log) ≡ true) (calls : Called rom tape s ram log k v ram′ log′ b) where
+    (fit : fits (world s ram rom tape log) ≡ true) (good : sound (world s ram rom tape log) ≡ true) (calls : StepsCalled rom tape s ram log k v ram′ log′ b) where
   -- as many as the budget
   pub calls-are-a-run : Runs k s ram rom tape log 0 v ram′ log′ k b
   calls-are-a-run =

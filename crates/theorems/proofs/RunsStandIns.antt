@@ -14,7 +14,8 @@ use Rattle.sheet.specs.Run.{runs, tallyAll, RunReport, runReported, ranReport}
 use Rattle.sheet.proofs.SmallTable.{small-table}
 use Rattle.engine.proofs.RunLaws.{Done}
 use Rattle.theorems.specs.Runs.{none, step-then, spent, stopped}
-use Rattle.theorems.specs.StandIns.{lendable, MeetsRun, answerOf, leftBy, stepsOf, cyclesOf, subtracting, subtracted, asleep}
+use Rattle.sheet.specs.Lendable.{lendable}
+use Rattle.theorems.specs.StandIns.{MeetsRun, answerOf, leftBy, stepsOf, cyclesOf, subtracting, subtracted, asleep}
 use Rattle.theorems.proofs.Calls.{step-done}
 use Rattle.theorems.proofs.CallsStandIns.{bytes-of, shared}
 use Rattle.theorems.proofs.Runs.{run-only}

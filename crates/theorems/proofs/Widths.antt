@@ -14,9 +14,9 @@ use Rattle.sheet.specs.Registers.{PSW, File, fileOf, written, readReg, regIndex
 use Rattle.sheet.specs.Memory.{physical, next, byteAt, readMem}
 use Rattle.sheet.specs.World.{World}
 use Rattle.sheet.specs.Handler.{taped}
-use Rattle.portlog.proofs.Picked.{picked}
+use Rattle.log_record.proofs.Picked.{picked}
 use Rattle.theorems.specs.Bounds.{Bytes}
-use Rattle.theorems.specs.StandIns.{every, lendable}
+use Rattle.sheet.specs.Lendable.{every, lendable}
 
 -- no number of a list exceeds a top
 abbrev pub Under : ℕ → List ℕ → Type 0

@@ -7,12 +7,13 @@ use Rattle.sheet.specs.declared.Bus.{Bus}
 use Rattle.sheet.specs.declared.State.{State}
 use Rattle.sheet.specs.declared.Entry.{Entry}
 use Rattle.sheet.specs.declared.Entry.the-variants.{Record, End}
+use Rattle.sheet.specs.Log.{rule}
 use Rattle.sheet.specs.World.{World, world}
 use Rattle.sheet.specs.Run.{FinishedStep}
-use Rattle.portlog.specs.Whole.{Row}
-use Rattle.logreader.specs.Answer.{Answers}
+use Rattle.log_record.specs.Whole.{Row}
+use Rattle.log_reader.specs.Answer.{Answers}
 use Rattle.engine.specs.Runs.{Runs}
-use Rattle.theorems.specs.StandIns.{lendable}
+use Rattle.sheet.specs.Lendable.{lendable}
 use Rattle.theorems.specs.RepeatCode.{StepCall, InterruptCall}
 use Rattle.theorems.specs.Rows.{stepsFrom, worldAfter}
 
@@ -32,8 +33,8 @@ pub data Called (w : World) : List FinishedStep → World → Type 0 where
   then-interrupt : {l : List FinishedStep} {u v : World} {vector number : ℕ} {maskable : Bool} {n : Bus} → Called w l u → InterruptCall vector maskable u number v n
       → Called w l v
 
--- whatever `logreader` answers from a place of a log on: these records, and then the end
+-- whatever `logreader` answers from a place of a log on, under the rule that the engine writes by: these records, and then the end
 pub data ReadBack (log : List ℕ) : ℕ → List Row → Type 0 where
-  all-read : {at : ℕ} → ((e : Entry) → Answers log at e → e ≡ End) → ReadBack log at []
-  read-then : {at next : ℕ} {r : Row} {rs : List Row} → ((e : Entry) → Answers log at e → e ≡ Record (r .gap) (r .key) (r .value) next)
+  all-read : {at : ℕ} → ((e : Entry) → Answers rule log at e → e ≡ End) → ReadBack log at []
+  read-then : {at next : ℕ} {r : Row} {rs : List Row} → ((e : Entry) → Answers rule log at e → e ≡ Record (r .gap) (r .key) (r .value) next)
       → ReadBack log next rs → ReadBack log at (r ∷ rs)

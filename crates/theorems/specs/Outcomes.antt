@@ -1,4 +1,4 @@
--- Document 01's table of refusals, with 02 f's 13 and its case of 2, row by row: what a step, an interrupt call and a reading of a log come to, each with its condition.
+-- Document 01's table of refusals, with 02 f's 13 and its case of 2 and 02 c's ceiling and rule, row by row: what a step, an interrupt call and a reading of a log come to, each with its condition.
 use Prim.Native.Nat.{ℕ, _+_, _≤_, _<_}
 use mathlib.Core.Path.{_≡_}
 use mathlib.Core.Bool.{Bool, true, false, not, _&&_}
@@ -6,6 +6,7 @@ use mathlib.Core.List.{List}
 use mathlib.Core.Option.{some}
 use lib.ListN.{length, drop}
 use Rattle.sheet.specs.declared.Instr.{Instr}
+use Rattle.sheet.specs.declared.GapRule.{GapRule}
 use Rattle.sheet.specs.declared.Found.the-variants as found
 use Rattle.sheet.specs.declared.Entry.{Entry}
 use Rattle.sheet.specs.declared.Entry.the-variants as entry
@@ -29,7 +30,7 @@ pub data Unsound (w : World) : Type 0 where
   fixed-bit : fixedOf (pswOf (w .state)) ≡ false → Unsound w
   tape-place : length (w .tape) < w .state .progress .tape → Unsound w
   log-place : length (w .log) < w .state .progress .log → Unsound w
-  count-over : 2097151 < w .state .progress .count → Unsound w
+  count-over : 4294967295 < w .state .progress .count → Unsound w
   marked-and-halted : (w .state .marks .halted && w .state .marks .loaded) ≡ true → Unsound w
 
 -- what passes both
@@ -38,7 +39,7 @@ pub record Passes (w : World) : Type 0 where
   pub fixed : fixedOf (pswOf (w .state)) ≡ true
   pub tape-in : w .state .progress .tape ≤ length (w .tape)
   pub log-in : w .state .progress .log ≤ length (w .log)
-  pub count-in : w .state .progress .count ≤ 2097151
+  pub count-in : w .state .progress .count ≤ 4294967295
   pub marks-in : (w .state .marks .halted && w .state .marks .loaded) ≡ false
 
 -- ---- a step
@@ -49,7 +50,7 @@ IsPrefix b = (x : Prefix) × (prefixOf b ≡ some x)
 pub data StepOf (w : World) : Seen Unit → Type 0 where
   -- 1: RAM and ROM together exceed 1,048,576 bytes
   too-large : space < length (w .ram) + length (w .rom) → StepOf w (stops 1)
-  -- 2: a fixed PSW bit is wrong, a place lies beyond its buffer, the count exceeds 2,097,151, or it is both marked and halted
+  -- 2: a fixed PSW bit is wrong, a place lies beyond its buffer, the count exceeds 4,294,967,295, or it is both marked and halted
   unsound : length (w .ram) + length (w .rom) ≤ space → Unsound w → StepOf w (stops 2)
   -- 8: a step of a halted machine
   asleep : Passes w → w .state .marks .halted ≡ true → StepOf w (stops 8)
@@ -82,15 +83,15 @@ pub data InterruptOf (vector : ℕ) (maskable : Bool) (w : World) : Seen Unit �
   taken : {v : World} {t : List Event} → Passes w → w .state .marks .loaded ≡ false → (maskable && not (flagOf (pswOf (w .state)) IE)) ≡ false
       → run (interrupting vector) w ≡ done tt v t → InterruptOf vector maskable w (ends tt v (tally t))
 
--- ---- the reading of a log at a place
+-- ---- the reading of a log at a place, under the gap rule that it was written by
 
-pub data ReadOf (log : List ℕ) (at : ℕ) : Entry → Type 0 where
+pub data ReadOf (g : GapRule) (log : List ℕ) (at : ℕ) : Entry → Type 0 where
   -- 2: the place lies beyond the log
-  beyond : length log < at → ReadOf log at entry.Beyond
+  beyond : length log < at → ReadOf g log at entry.Beyond
   -- 9: the record is malformed; the offset of its first byte is given
-  malformed : at ≤ length log → recordAt rule (drop at log) ≡ found.Faulty → ReadOf log at (entry.Malformed at)
+  malformed : at ≤ length log → recordAt g (drop at log) ≡ found.Faulty → ReadOf g log at (entry.Malformed at)
   -- 0: the log's end is named as such
-  at-end : at ≡ length log → ReadOf log at entry.End
+  at-end : at ≡ length log → ReadOf g log at entry.End
   -- 0: a record, and the place behind it
-  met : {gap key value n : ℕ} → at ≤ length log → recordAt rule (drop at log) ≡ found.Record gap key value n
-      → ReadOf log at (entry.Record gap key value (at + n))
+  met : {gap key value n : ℕ} → at ≤ length log → recordAt g (drop at log) ≡ found.Record gap key value n
+      → ReadOf g log at (entry.Record gap key value (at + n))

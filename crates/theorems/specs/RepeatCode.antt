@@ -6,7 +6,7 @@ use Rattle.sheet.specs.declared.Bus.{Bus}
 use Rattle.sheet.specs.declared.State.{State}
 use Rattle.sheet.specs.World.{World, world}
 use Rattle.sheet.specs.Handler.{Event, happened, nothing, _⊕_, tally}
-use Rattle.calls.specs.Calls.{Interrupts}
+use Rattle.step_calls.specs.Calls.{Interrupts}
 use Rattle.engine.specs.Steps.{Steps}
 use Rattle.theorems.specs.Repeat.{Block, single, singles, Engine}
 
@@ -15,7 +15,7 @@ pub data StepCall (w : World) : ℕ → World → Bus → Type 0 where
   step-call : {number : ℕ} {s : State} {ram log : List ℕ} {n : Bus} → Steps (w .state) (w .ram) (w .rom) (w .tape) (w .log) number s ram log n
       → StepCall w number (world s ram (w .rom) (w .tape) log) n
 
--- `calls::interrupt` was called
+-- `step_calls::interrupt` was called
 pub data InterruptCall (vector : ℕ) (maskable : Bool) (w : World) : ℕ → World → Bus → Type 0 where
   interrupt-call : {number : ℕ} {s : State} {ram : List ℕ} {n : Bus} → Interrupts vector maskable (w .state) (w .ram) (w .rom) (w .tape) (w .log) number s ram n
       → InterruptCall vector maskable w number (world s ram (w .rom) (w .tape) (w .log)) n

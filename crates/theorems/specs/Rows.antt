@@ -2,12 +2,12 @@
 use Prim.Native.Nat.{ℕ, zero, suc, _+_, min}
 use mathlib.Core.Bool.{Bool, true, false}
 use mathlib.Core.List.{List, [], _∷_, _++_}
-use Rattle.sheet.specs.Log.{rule, keyOf}
+use Rattle.sheet.specs.Log.{ceiling, rule, keyOf}
 use Rattle.sheet.specs.World.{World}
 use Rattle.sheet.specs.Handler.{Event, reads, writes, takes, gives, asks, copies, changes, Outcome, refused, done}
 use Rattle.sheet.specs.Step.{step}
 use Rattle.sheet.specs.Run.{FinishedStep, begunIn}
-use Rattle.portlog.specs.Whole.{Row}
+use Rattle.log_record.specs.Whole.{Row}
 
 -- what an event is to the log: nothing, or an access to a port
 pub data Use : Type 0 where
@@ -29,7 +29,7 @@ rowOf gap key value = record { gap = gap; key = key; value = value }
 -- n steps are finished since the record before, this one included: the gap is n, or the ceiling
 abbrev pub rowsOfUse : ℕ → Use → List Row
 rowsOfUse n none = []
-rowsOfUse n (access out word port value) = rowOf (min n (rule .ceiling)) (keyOf out word port) value ∷ []
+rowsOfUse n (access out word port value) = rowOf (min n (ceiling rule)) (keyOf out word port) value ∷ []
 
 -- how many are finished since a record, behind that event
 abbrev pub sinceUse : ℕ → Use → ℕ

@@ -3,29 +3,15 @@ use Prim.Native.Nat.{ℕ, _≤_}
 use mathlib.Core.Bool.{Bool, true, false, _&&_}
 use mathlib.Core.List.{List, [], _∷_}
 use mathlib.Core.Path.{_≡_}
-use lib.ListN.{length}
-use lib.Dec.{eqb, leb}
 use Rattle.sheet.specs.declared.Bus.{Bus}
 use Rattle.sheet.specs.declared.Entry.{Entry}
 use Rattle.sheet.specs.World.{World, world, marksOf}
 use Rattle.sheet.specs.Contract.{Report, report}
-use Rattle.sheet.specs.Log.{rule, readLog}
+use Rattle.sheet.specs.declared.GapRule.{GapRule}
+use Rattle.sheet.specs.Log.{readLog}
+use Rattle.sheet.specs.Lendable.{every, lendable, vectorTop, budgetTop}
 use Rattle.sheet.specs.Step.{stepReport, interruptReport}
 use Rattle.sheet.specs.Run.{runs, RunReport, runReported, ranReport}
-
--- the numbers of a buffer are at most n
-abbrev pub every : ℕ → List ℕ → Bool
-every n [] = true
-every n (x ∷ l) = leb x n && every n l
-
--- what code can be lent: fourteen words, a u32 and two usize numbers, and buffers of bytes
-abbrev pub lendable : World → Bool
-lendable w =
-    eqb (length (w .state .file)) 14
-    && (every 65535 (w .state .file)
-    && (leb (w .state .progress .count) 4294967295
-    && (leb (w .state .progress .tape) 18446744073709551615
-    && (leb (w .state .progress .log) 18446744073709551615 && (every 255 (w .ram) && (every 255 (w .rom) && (every 255 (w .tape) && every 255 (w .log))))))))
 
 -- an engine does what step promises, what an interrupt call promises, what run promises
 abbrev pub MeetsStep : (World → Report) → Type 0
@@ -33,14 +19,14 @@ MeetsStep engine = (w : World) → lendable w ≡ true → stepReport w ≡ engi
 
 abbrev pub MeetsInterrupt : (ℕ → Bool → World → Report) → Type 0
 MeetsInterrupt engine =
-    (vector : ℕ) (maskable : Bool) (w : World) → vector ≤ 255 → lendable w ≡ true → interruptReport vector maskable w ≡ engine vector maskable w
+    (vector : ℕ) (maskable : Bool) (w : World) → vector ≤ vectorTop → lendable w ≡ true → interruptReport vector maskable w ≡ engine vector maskable w
 
 abbrev pub MeetsRun : (ℕ → World → RunReport) → Type 0
-MeetsRun engine = (budget : ℕ) (w : World) → budget ≤ 65535 → lendable w ≡ true → ranReport (runs budget w) ≡ engine budget w
+MeetsRun engine = (budget : ℕ) (w : World) → budget ≤ budgetTop → lendable w ≡ true → ranReport (runs budget w) ≡ engine budget w
 
 -- a log reader does what reading promises
-abbrev pub MeetsReader : (List ℕ → ℕ → Entry) → Type 0
-MeetsReader reader = (log : List ℕ) (at : ℕ) → every 255 log ≡ true → readLog rule log at ≡ reader log at
+abbrev pub MeetsReader : (GapRule → List ℕ → ℕ → Entry) → Type 0
+MeetsReader reader = (g : GapRule) (log : List ℕ) (at : ℕ) → every 255 log ≡ true → readLog g log at ≡ reader g log at
 
 -- ---- the parts of a report
 

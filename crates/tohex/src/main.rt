@@ -1,4 +1,4 @@
 // Writes a ROM image as Intel HEX.
 fn main() {
-    hexrun::to_hex();
+    hex_run::to_hex();
 }

@@ -1,14 +1,16 @@
 //! Makes, answers and compares streams of cases, and lists port logs.
 
+use second::cards::CARDS;
+use second::gap_rule::GapRule;
 use second::judge::answer::answer_stream;
 use second::judge::diff::{diff, Answers};
-use second::judge::generate::generate;
+use second::judge::generate::Stream;
 use second::listing;
 use std::io::{self, BufReader, BufWriter, Read, Write};
 use std::process::ExitCode;
 
-const USAGE: &str = "usage: judge generate SEED COUNT [FIRST] | judge answer | \
-                     judge diff CASES RESULT_A RESULT_B [FIRST] | judge list";
+const USAGE: &str = "usage: judge generate SEED COUNT [FIRST [STREAM]] | judge answer | \
+                     judge diff CASES RESULT_A RESULT_B [FIRST] | judge list old|new";
 
 const MISMATCHED: u8 = 1;
 const UNUSABLE: u8 = 2;
@@ -17,12 +19,14 @@ fn main() -> ExitCode {
     let words: Vec<String> = std::env::args().skip(1).collect();
     let words: Vec<&str> = words.iter().map(String::as_str).collect();
     let outcome = match words[..] {
-        ["generate", seed, count] => write_cases(seed, count, "0"),
-        ["generate", seed, count, first] => write_cases(seed, count, first),
+        ["generate", seed, count] => write_cases(seed, count, "0", "calls"),
+        ["generate", seed, count, first] => write_cases(seed, count, first, "calls"),
+        ["generate", seed, count, first, stream] => write_cases(seed, count, first, stream),
         ["answer"] => answer_input(),
         ["diff", cases, left, right] => compare(cases, left, right, "0"),
         ["diff", cases, left, right, first] => compare(cases, left, right, first),
-        ["list"] => list_input(),
+        ["list", "old"] => list_input(GapRule::Old),
+        ["list", "new"] => list_input(GapRule::New),
         _ => Err(USAGE.to_string()),
     };
     outcome.unwrap_or_else(|problem| {
@@ -31,12 +35,14 @@ fn main() -> ExitCode {
     })
 }
 
-fn write_cases(seed: &str, count: &str, first: &str) -> Result<ExitCode, String> {
+fn write_cases(seed: &str, count: &str, first: &str, stream: &str) -> Result<ExitCode, String> {
     let seed = number(seed)?;
     let count = number(count)?;
     let first = number(first)?;
+    let stream = Stream::of_word(stream, CARDS).ok_or(format!("there is no stream of {stream}"))?;
     let mut output = BufWriter::new(io::stdout().lock());
-    generate(seed, first, count, &mut output)
+    stream
+        .write(seed, first, count, &mut output)
         .and_then(|()| output.flush())
         .map_err(|error| error.to_string())?;
     Ok(ExitCode::SUCCESS)
@@ -50,7 +56,7 @@ fn number(word: &str) -> Result<u64, String> {
 fn answer_input() -> Result<ExitCode, String> {
     let mut input = BufReader::new(io::stdin().lock());
     let mut output = BufWriter::new(io::stdout().lock());
-    answer_stream(&mut input, &mut output)
+    answer_stream(&mut input, &mut output, CARDS)
         .and_then(|()| output.flush())
         .map_err(|error| error.to_string())?;
     Ok(ExitCode::SUCCESS)
@@ -79,13 +85,13 @@ fn compare(cases: &str, left: &str, right: &str, first: &str) -> Result<ExitCode
     })
 }
 
-fn list_input() -> Result<ExitCode, String> {
+fn list_input(rule: GapRule) -> Result<ExitCode, String> {
     let mut log = Vec::new();
     // one byte past the limit is enough to see that it is too long
     let mut input = io::stdin().lock().take(listing::LONGEST_LOG as u64 + 1);
     input
         .read_to_end(&mut log)
-        .and_then(|_| io::stdout().write_all(listing::list(&log).as_bytes()))
+        .and_then(|_| io::stdout().write_all(listing::list(&log, rule).as_bytes()))
         .map_err(|error| error.to_string())?;
     Ok(ExitCode::SUCCESS)
 }

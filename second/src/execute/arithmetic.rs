@@ -34,7 +34,7 @@ impl Operation {
     }
 }
 
-fn flag_if(flag: u16, on: bool) -> u16 {
+pub(super) fn flag_if(flag: u16, on: bool) -> u16 {
     if on {
         flag
     } else {
@@ -42,7 +42,7 @@ fn flag_if(flag: u16, on: bool) -> u16 {
     }
 }
 
-fn sign_zero_parity<W: Width>(result: W) -> u16 {
+pub(super) fn sign_zero_parity<W: Width>(result: W) -> u16 {
     let low_byte = result.number() as u8;
     flag_if(S, result.sign())
         | flag_if(Z, result.number() == 0)

@@ -1,9 +1,10 @@
-//! What each instruction does, chosen by its first byte.
+//! What each native instruction does, chosen by its first byte.
 
 mod arithmetic;
 mod bits;
 mod block;
 mod branch;
+mod cards;
 mod decimal;
 mod divide;
 mod fields;
@@ -12,6 +13,7 @@ mod shift;
 mod stack;
 mod transfer;
 
+use crate::cards::Cards;
 use crate::machine::{GoOnWhile, Machine, Outcome};
 use crate::refusal::Refusal;
 use crate::state::{AW, CW, CY, DIR, DS0, DS1, DW, IE, PS, SS};
@@ -255,6 +257,10 @@ impl Machine<'_> {
             0x33 => self.extract_field_of_register_length(),
             0x39 => self.insert_field_of_immediate_length(),
             0x3B => self.extract_field_of_immediate_length(),
+            0xFF if self.cards == Cards::In => {
+                self.break_for_emulation();
+                Ok(())
+            }
             _ => Err(Refusal::UnknownInstruction),
         }
     }

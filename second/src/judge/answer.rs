@@ -1,5 +1,6 @@
 //! Makes the call of each case on this engine.
 
+use crate::cards::Cards;
 use crate::judge::case::{Call, Case, End};
 use crate::judge::result::CallResult;
 use crate::machine::{Machine, RunReport, Tally};
@@ -8,10 +9,14 @@ use crate::refusal::Refusal;
 use std::io::{self, Read, Write};
 
 /// Answers a stream to its end, which may lie in the middle of a case.
-pub fn answer_stream(cases: &mut impl Read, results: &mut impl Write) -> io::Result<()> {
+pub fn answer_stream(
+    cases: &mut impl Read,
+    results: &mut impl Write,
+    cards: Cards,
+) -> io::Result<()> {
     loop {
-        match Case::read(cases) {
-            Ok(case) => results.write_all(&answer(&case))?,
+        match Case::read(cases, cards) {
+            Ok(case) => results.write_all(&answer(&case, cards))?,
             Err(End::OfStream) => return Ok(()),
             Err(End::Unfit(why)) => {
                 eprintln!("judge: the stream ends here: {why}");
@@ -22,14 +27,16 @@ pub fn answer_stream(cases: &mut impl Read, results: &mut impl Write) -> io::Res
     }
 }
 
-pub fn answer(case: &Case) -> Vec<u8> {
+pub fn answer(case: &Case, cards: Cards) -> Vec<u8> {
+    let by = |call: &dyn Fn(&mut Machine) -> RunReport| answer_call(case, cards, call);
     match case.call {
-        Call::Step => answer_call(case, |machine| report(machine.step(), 1)),
-        Call::Run => answer_call(case, |machine| machine.run(case.budget)),
-        Call::Interrupt => answer_call(case, |machine| {
-            report(machine.interrupt(case.vector, case.may_be_masked), 0)
-        }),
-        Call::Reset => answer_call(case, |machine| {
+        Call::Step => by(&|machine| report(machine.step(), 1)),
+        // an interpreter without readings to reuse has one way to run
+        Call::Run | Call::QuickerRun => by(&|machine| machine.run(case.budget)),
+        Call::Interrupt => {
+            by(&|machine| report(machine.interrupt(case.vector, case.may_be_masked), 0))
+        }
+        Call::Reset => by(&|machine| {
             machine.reset();
             report(Ok(Tally::default()), 0)
         }),
@@ -46,7 +53,7 @@ fn report(outcome: Result<Tally, Refusal>, steps: u32) -> RunReport {
     }
 }
 
-fn answer_call(case: &Case, call: impl FnOnce(&mut Machine) -> RunReport) -> Vec<u8> {
+fn answer_call(case: &Case, cards: Cards, call: &dyn Fn(&mut Machine) -> RunReport) -> Vec<u8> {
     let mut lent = case.buffers();
     let mut machine = Machine::new(
         case.state.clone(),
@@ -55,6 +62,7 @@ fn answer_call(case: &Case, call: impl FnOnce(&mut Machine) -> RunReport) -> Vec
         &case.tape,
         &mut lent.log,
     );
+    machine.cards = cards;
     let report = call(&mut machine);
     let state = machine.state;
     let result = CallResult {
@@ -70,7 +78,7 @@ fn answer_call(case: &Case, call: impl FnOnce(&mut Machine) -> RunReport) -> Vec
 
 fn answer_reading(case: &Case) -> Vec<u8> {
     let lent = case.buffers();
-    let mut reader = LogReader::new(&lent.log, case.state.log_place as usize);
+    let mut reader = LogReader::new(&lent.log, case.state.log_place as usize, case.gap_rule);
     let reading = reader.read();
     let place = reader.place() as u32;
     let (kind, numbers) = match reading {

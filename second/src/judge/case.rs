@@ -1,5 +1,7 @@
 //! One case: a call, its arguments and the buffers that are lent to it.
 
+use crate::cards::Cards;
+use crate::gap_rule::GapRule;
 use crate::state::{State, DS0, DS1, PS, SS};
 use std::io::{self, Read, Write};
 
@@ -12,8 +14,10 @@ pub const MOST_PATCHES: u16 = 4_096;
 const HEADER_LENGTH: usize = 72;
 const PATCH_LENGTH: usize = 6;
 
+/// The permission to write the mode, zero without the cards.
+const PERMISSION: usize = 62;
 /// From here on a header has zeros: fields of requests that are not built, and bytes that nothing uses.
-const ZEROS_FROM: usize = 62;
+const ZEROS_FROM: usize = 64;
 
 /// The order in which a stream names the segment registers.
 const SEGMENT_ORDER: [usize; 4] = [PS, SS, DS0, DS1];
@@ -25,6 +29,7 @@ pub enum Call {
     Interrupt,
     Reset,
     LogReading,
+    QuickerRun,
 }
 
 impl Call {
@@ -35,6 +40,7 @@ impl Call {
             Call::Interrupt,
             Call::Reset,
             Call::LogReading,
+            Call::QuickerRun,
         ]
         .get(usize::from(number))
         .copied()
@@ -67,6 +73,8 @@ pub struct Case {
     pub rom_length: u32,
     pub log_length: u16,
     pub fill: u8,
+    /// What a log reading reads under; the other calls do not look at it.
+    pub gap_rule: GapRule,
     pub patches: Vec<Patch>,
     pub tape: Vec<u8>,
 }
@@ -99,10 +107,10 @@ impl From<io::Error> for End {
 }
 
 impl Case {
-    pub fn read(stream: &mut impl Read) -> Result<Case, End> {
+    pub fn read(stream: &mut impl Read, cards: Cards) -> Result<Case, End> {
         let mut header = [0; HEADER_LENGTH];
         stream.read_exact(&mut header)?;
-        let case = Case::of_header(&header)?;
+        let case = Case::of_header(&header, cards)?;
         let (tape_length, patch_count) = (word_at(&header, 54), word_at(&header, 58));
         if tape_length > LONGEST_TAPE {
             return Err(End::Unfit("the tape is too long"));
@@ -126,11 +134,15 @@ impl Case {
         })
     }
 
-    fn of_header(header: &[u8; HEADER_LENGTH]) -> Result<Case, End> {
-        if header[1] > 1 || header[2] > 1 || header[61] > 1 {
+    fn of_header(header: &[u8; HEADER_LENGTH], cards: Cards) -> Result<Case, End> {
+        if [1, 2, 61, PERMISSION, 63]
+            .iter()
+            .any(|&offset| header[offset] > 1)
+        {
             return Err(End::Unfit("a mark is neither 0 nor 1"));
         }
-        if header[ZEROS_FROM..].iter().any(|&byte| byte != 0) {
+        let permission_without_cards = cards == Cards::Out && header[PERMISSION] != 0;
+        if permission_without_cards || header[ZEROS_FROM..].iter().any(|&byte| byte != 0) {
             return Err(End::Unfit("something stands where there must be zero"));
         }
         let case = Case {
@@ -143,6 +155,11 @@ impl Case {
             rom_length: double_word_at(header, 50),
             log_length: word_at(header, 56),
             fill: header[60],
+            gap_rule: if header[63] == 0 {
+                GapRule::Old
+            } else {
+                GapRule::New
+            },
             patches: Vec::new(),
             tape: Vec::new(),
         };
@@ -179,7 +196,12 @@ impl Case {
         bytes.extend((self.tape.len() as u16).to_le_bytes());
         bytes.extend(self.log_length.to_le_bytes());
         bytes.extend((self.patches.len() as u16).to_le_bytes());
-        bytes.extend([self.fill, u8::from(state.after_segment_load)]);
+        bytes.extend([
+            self.fill,
+            u8::from(state.after_segment_load),
+            u8::from(state.may_write_mode),
+            self.gap_rule as u8,
+        ]);
         bytes.resize(HEADER_LENGTH, 0);
         for patch in &self.patches {
             bytes.push(patch.lent as u8);
@@ -250,6 +272,7 @@ fn state_of_header(header: &[u8; HEADER_LENGTH]) -> State {
     state.psw = word_at(header, 32);
     state.halted = header[1] != 0;
     state.after_segment_load = header[61] != 0;
+    state.may_write_mode = header[PERMISSION] != 0;
     state.tape_place = double_word_at(header, 34);
     state.log_place = double_word_at(header, 38);
     state.count = double_word_at(header, 42);

@@ -1,13 +1,14 @@
 //! Compares two engines' answers to one stream and says in words where they differ.
 
+use crate::cards::Cards;
 use crate::judge::case::{Call, Case, End};
-use crate::judge::names;
 use crate::judge::result::{fields, length_for, Field, Value};
+use crate::judge::{names, names_8080};
 use crate::memory::Memory;
 use crate::state::PS;
 use std::io::{self, Write};
 
-const FLAG_NAMES: [(u16, &str); 9] = [
+const FLAG_NAMES: [(u16, &str); 10] = [
     (0, "CY"),
     (2, "P"),
     (4, "AC"),
@@ -17,6 +18,7 @@ const FLAG_NAMES: [(u16, &str); 9] = [
     (9, "IE"),
     (10, "DIR"),
     (11, "V"),
+    (15, "MD"),
 ];
 
 /// Who gave which answers.
@@ -30,7 +32,7 @@ pub struct Summary {
     pub cases: u64,
     pub mismatched: u64,
     /// how many cases there were of each call
-    calls: [u64; 5],
+    calls: [u64; 6],
 }
 
 /// Writes a line for each differing field, then how many cases there were of each call, and a last line that sums up.
@@ -44,7 +46,8 @@ pub fn diff(
 ) -> io::Result<Summary> {
     let mut summary = Summary::default();
     loop {
-        let case = match Case::read(&mut cases) {
+        // what the engines make of a case without the cards is theirs to say
+        let case = match Case::read(&mut cases, Cards::In) {
             Ok(case) => case,
             Err(End::OfStream) => break,
             Err(End::Unfit(why)) => {
@@ -88,10 +91,10 @@ pub fn diff(
             )?;
         }
     }
-    let [step, run, interrupt, reset, reading] = summary.calls;
+    let [step, run, interrupt, reset, reading, quicker] = summary.calls;
     writeln!(
         output,
-        "{step} step, {run} run, {interrupt} interrupt, {reset} reset, {reading} log reading"
+        "{step} step, {run} run, {interrupt} interrupt, {reset} reset, {reading} log reading, {quicker} quicker run"
     )?;
     writeln!(
         output,
@@ -161,8 +164,13 @@ fn differing_flags(left: &Field, right: &Field) -> String {
 fn describe(case: &Case) -> String {
     match case.call {
         Call::Step => format!("step of {}", first_instruction(case)),
-        Call::Run => format!(
-            "run with budget {} from {}",
+        Call::Run | Call::QuickerRun => format!(
+            "{} with budget {} from {}",
+            if case.call == Call::Run {
+                "run"
+            } else {
+                "quicker run"
+            },
             case.budget,
             first_instruction(case)
         ),
@@ -175,13 +183,21 @@ fn describe(case: &Case) -> String {
             format!("interrupt to vector {}, {kind}", case.vector)
         }
         Call::Reset => "reset".to_string(),
-        Call::LogReading => format!("log reading at place {}", case.state.log_place),
+        Call::LogReading => format!(
+            "log reading at place {} under the {} gap rule",
+            case.state.log_place,
+            case.gap_rule.name()
+        ),
     }
 }
 
 fn first_instruction(case: &Case) -> String {
     let bytes = code_bytes(case);
-    let named = names::name(&bytes);
+    let named = if case.state.is_native() {
+        names::name(&bytes)
+    } else {
+        names_8080::name(&bytes)
+    };
     let shown: Vec<String> = bytes[..named.length]
         .iter()
         .map(|byte| format!("{byte:02X}"))

@@ -5,4 +5,5 @@ pub mod case;
 pub mod diff;
 pub mod generate;
 pub mod names;
+pub mod names_8080;
 pub mod result;

@@ -214,6 +214,7 @@ fn second_byte_name(second: u8, operands: u8) -> (&'static str, Tail) {
         0x2A => ("ROR4", Operands(0)),
         0x31 | 0x39 => ("INS", Operands(immediate)),
         0x33 | 0x3B => ("EXT", Operands(immediate)),
+        0xFF => ("BRKEM", Bytes(1)),
         _ => ("unknown", Nothing),
     }
 }

@@ -50,6 +50,7 @@ impl CallResult<'_> {
         // what belongs to requests that are not built
         bytes.resize(CALL_LENGTH, 0);
         bytes[70] = u8::from(self.state.after_segment_load);
+        bytes[71] = u8::from(self.state.may_write_mode);
         bytes
     }
 }

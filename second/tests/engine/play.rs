@@ -1,11 +1,16 @@
 //! Whole ROMs, played from reset.
 
-use second::listing::list;
+use second::gap_rule::GapRule;
+use second::listing;
 use second::play::play;
 use std::fs;
 use std::process::{Command, Output};
 
 /// A ROM of 16 bytes, so that reset begins at its first one.
+fn list(log: &[u8]) -> String {
+    listing::list(log, GapRule::New)
+}
+
 fn rom(code: &[u8]) -> Vec<u8> {
     let mut rom = code.to_vec();
     rom.resize(16, 0xFF);

@@ -44,17 +44,46 @@ fn the_gap_counts_finished_steps() {
 }
 
 #[test]
-fn gap_and_count_stop_at_their_limit() {
-    for count in [2_097_150, 2_097_151] {
+fn gap_and_count_stop_at_the_new_ceiling() {
+    // the count before, then the gap's bytes and the count after a step without a record
+    let cases: [(u32, &[u8], u32); 5] = [
+        ((1 << 21) - 2, &[0xFF, 0xFF, 0x7F], (1 << 21) - 1),
+        ((1 << 21) - 1, &[0x80, 0x80, 0x80, 0x01], 1 << 21),
+        ((1 << 28) - 1, &[0x80, 0x80, 0x80, 0x80, 0x01], 1 << 28),
+        (
+            4_294_967_294,
+            &[0xFF, 0xFF, 0xFF, 0xFF, 0x0F],
+            4_294_967_295,
+        ),
+        (
+            4_294_967_295,
+            &[0xFF, 0xFF, 0xFF, 0xFF, 0x0F],
+            4_294_967_295,
+        ),
+    ];
+    for (count, gap, later) in cases {
         let mut machine = bench(&[0xE6, 0x00]);
         machine.state.count = count;
         let after = machine.done();
-        assert_eq!(after.log[..3], [0xFF, 0xFF, 0x7F]);
+        assert_eq!(after.log[..gap.len()], *gap);
+        assert_eq!(after.log[gap.len()..][..2], [0x01, 0x00]);
+        assert_eq!(after.state.log_place as usize, gap.len() + 2);
         assert_eq!(after.state.count, 0);
         let mut machine = bench(&[0x90]);
         machine.state.count = count;
-        assert_eq!(machine.done().state.count, 2_097_151);
+        assert_eq!(machine.done().state.count, later);
     }
+}
+
+#[test]
+fn a_long_gap_needs_its_five_bytes_of_room() {
+    let machine = |length| {
+        let mut machine = bench(&[0xE6, 0x00]).log_length(length);
+        machine.state.count = 4_294_967_295;
+        machine
+    };
+    assert_eq!(machine(6).refused(), 6);
+    assert!(machine(7).step().is_ok());
 }
 
 #[test]

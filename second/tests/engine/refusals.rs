@@ -40,11 +40,10 @@ fn every_fixed_bit_is_checked() {
 }
 
 #[test]
-fn places_and_count_beyond_their_limits() {
-    let edit: [fn(&mut State, u32); 3] = [
+fn places_beyond_their_limits() {
+    let edit: [fn(&mut State, u32); 2] = [
         |state, beyond| state.tape_place = 2 + beyond,
         |state, beyond| state.log_place = 64 + beyond,
-        |state, beyond| state.count = 2_097_151 + beyond,
     ];
     for spoil in edit {
         let mut machine = bench(&[0x90]).tape(&[1, 2]);
@@ -52,6 +51,15 @@ fn places_and_count_beyond_their_limits() {
         assert!(machine.clone().step().is_ok());
         spoil(&mut machine.state, 1);
         assert_eq!(machine.refused(), 2);
+    }
+}
+
+#[test]
+fn no_count_is_refused() {
+    for count in [0, (1 << 21) - 1, 1 << 21, 4_294_967_295] {
+        let mut machine = bench(&[0x90]);
+        machine.state.count = count;
+        assert!(machine.step().is_ok());
     }
 }
 

@@ -1,5 +1,6 @@
 //! The listing of a ROM and the image rebuilt from it.
 
+use second::cards::{Cards, CARDS};
 use second::judge::generate::encodings::{prefixes, random_opcode, with_tail};
 use second::judge::generate::random::Random;
 use second::rom_listing::{list, rebuild, LONGEST_IMAGE};
@@ -431,7 +432,7 @@ fn what_names_no_instruction_is_data() {
     for byte in [0x63, 0x66, 0x67, 0x9B, 0xD6, 0xD8, 0xDF, 0xF1] {
         is_data(&[byte]);
     }
-    let refused: [&[u8]; 35] = [
+    let refused: [&[u8]; 34] = [
         // register forms of LDEA, of the pointer loads, of CHKIND and of the far calls and branches
         &[0x8D, 0xC6],
         &[0xC4, 0xC6],
@@ -469,10 +470,9 @@ fn what_names_no_instruction_is_data() {
         // conversions to another base than ten
         &[0xD4, 0x08],
         &[0xD5, 0x0B],
-        // second bytes that are not in, the last one BRKEM's
+        // second bytes that are not in
         &[0x0F, 0x0F],
         &[0x0F, 0x21],
-        &[0x0F, 0xFF, 0x03],
     ];
     for bytes in refused {
         let text = text(bytes);
@@ -480,6 +480,19 @@ fn what_names_no_instruction_is_data() {
         let line = format!("{address:05X} {first:02X}                 DB {first:02X}\n");
         assert!(text.starts_with(&line), "{text}");
     }
+}
+
+#[test]
+fn brkem_is_listed_with_the_cards_alone() {
+    let expected = match CARDS {
+        Cards::In => "FFFFD 0FFF03             BRKEM 03\n",
+        Cards::Out => {
+            "\
+            FFFFD 0F                 DB 0F\n\
+            FFFFE FF03               INC WORD SS:[BP+IY]\n"
+        }
+    };
+    assert_eq!(text(&[0x0F, 0xFF, 0x03]), expected);
 }
 
 #[test]

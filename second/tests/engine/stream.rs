@@ -1,14 +1,14 @@
 //! Case streams: their bytes, their answers and the words of a mismatch.
 
-use second::judge::answer::{answer, answer_stream};
+use second::cards::Cards;
+use second::gap_rule::GapRule;
+use second::judge::answer::{self, answer_stream};
 use second::judge::case::{Call, Case, Lent, Patch};
 use second::judge::diff::{diff, Answers};
 use second::judge::generate::encodings::{has_operands, is_in, walk, LENGTH_OF_WALK};
-use second::judge::generate::{case, generate};
 use second::judge::names::name;
 use second::judge::result::sum;
 use second::state::*;
-use std::collections::HashSet;
 
 fn step_of(code: &[u8]) -> Case {
     let mut state = State::after_reset();
@@ -28,12 +28,18 @@ fn step_of(code: &[u8]) -> Case {
         rom_length: 0,
         log_length: 4,
         fill: 0x90,
+        gap_rule: GapRule::Old,
         patches: patches.collect(),
         tape: vec![0xAB],
     }
 }
 
-fn bytes_of(case: &Case) -> Vec<u8> {
+/// This engine's answer without the cards.
+pub fn answer(case: &Case) -> Vec<u8> {
+    answer::answer(case, Cards::Out)
+}
+
+pub fn bytes_of(case: &Case) -> Vec<u8> {
     let mut bytes = Vec::new();
     case.write(&mut bytes).expect("a vector takes all bytes");
     bytes
@@ -50,17 +56,21 @@ fn a_case_is_laid_out_as_the_table_says() {
     case.state.count = 0x12345;
     case.state.after_segment_load = true;
     case.budget = 0x1234;
+    case.gap_rule = GapRule::New;
     let bytes = bytes_of(&case);
     let mut expected = vec![0, 0, 0, 0, 0x34, 0x12];
     expected.extend([1, 1, 2, 0, 3, 0, 4, 0, 5, 0, 6, 0, 7, 0, 8, 0]);
     expected.extend([9, 0, 10, 0, 11, 0, 12, 0, 13, 0, 0x02, 0xF0]);
     expected.extend([1, 0, 0, 0, 2, 0, 0, 0, 0x45, 0x23, 0x01, 0]);
     expected.extend([16, 0, 0, 0, 0, 0, 0, 0, 1, 0, 4, 0, 1, 0, 0x90]);
-    expected.push(1);
-    expected.extend([0; 10]);
+    expected.extend([1, 0, 1]);
+    expected.extend([0; 8]);
     expected.extend([0, 0, 0, 0, 0, 0x40, 0xAB]);
     assert_eq!(bytes, expected);
-    assert_eq!(Case::read(&mut &bytes[..]).expect("a whole case"), case);
+    assert_eq!(
+        Case::read(&mut &bytes[..], Cards::Out).expect("a whole case"),
+        case
+    );
 }
 
 #[test]
@@ -128,9 +138,35 @@ fn log_readings_answer_with_seventeen_bytes() {
     );
 }
 
+#[test]
+fn log_readings_obey_the_gap_rule() {
+    // 82 82 82 82 02, then key 2 and value 2: a gap of five groups
+    let mut case = step_of(&[]);
+    case.call = Call::LogReading;
+    (case.fill, case.log_length) = (0x82, 7);
+    for index in 4..7 {
+        let (lent, value) = (Lent::Log, 0x02);
+        case.patches.push(Patch { lent, index, value });
+    }
+    assert_eq!(answer(&case)[0], 9);
+    case.gap_rule = GapRule::New;
+    assert_eq!(
+        answer(&case),
+        [0, 0x02, 0x81, 0x40, 0x20, 2, 0, 0, 0, 2, 0, 0, 0, 7, 0, 0, 0]
+    );
+    // the other calls do not look at it
+    for call in [Call::Step, Call::Run, Call::Interrupt, Call::Reset] {
+        case.call = call;
+        case.gap_rule = GapRule::New;
+        let new = answer(&case);
+        case.gap_rule = GapRule::Old;
+        assert_eq!(answer(&case), new);
+    }
+}
+
 fn answers_of(stream: &[u8]) -> Vec<u8> {
     let mut results = Vec::new();
-    answer_stream(&mut &stream[..], &mut results).expect("memory does not fail");
+    answer_stream(&mut &stream[..], &mut results, Cards::Out).expect("memory does not fail");
     results
 }
 
@@ -156,14 +192,13 @@ fn answered_with(offset: usize, bytes: &[u8]) -> usize {
 
 #[test]
 fn what_does_not_fit_ends_the_stream() {
-    // RAM, ROM, tape, log and patches one over their limits; calls that are not built or not known
+    // RAM, ROM, tape, log and patches one over their limits; calls that are not known
     for (offset, bytes) in [
         (46, &[0x02, 0x00, 0x10, 0x00][..]),
         (50, &[0x02, 0x00, 0x10, 0x00]),
         (54, &[0x01, 0x10]),
         (56, &[0x01, 0x10]),
         (58, &[0x01, 0x10]),
-        (0, &[5]),
         (0, &[6]),
         (0, &[255]),
     ] {
@@ -173,14 +208,14 @@ fn what_does_not_fit_ends_the_stream() {
 
 #[test]
 fn values_that_a_field_has_not_end_the_stream() {
-    // the halted mark, the masking, the mark of a segment load, the kind of the patch
-    for (offset, last) in [(1, 1), (2, 1), (61, 1), (72, 2)] {
+    // the halted mark, the masking, the mark of a segment load, the gap rule, the kind of the patch
+    for (offset, last) in [(1, 1), (2, 1), (61, 1), (63, 1), (72, 2)] {
         assert!(answered_with(offset, &[last]) > 1);
         assert_eq!(answered_with(offset, &[last + 1]), 1);
         assert_eq!(answered_with(offset, &[255]), 1);
     }
     // requests that are not built, and zero bytes
-    for offset in 62..72 {
+    for offset in [62, 64, 65, 66, 67, 68, 69, 70, 71] {
         assert_eq!(answered_with(offset, &[1]), 1);
         assert_eq!(answered_with(offset, &[0x80]), 1);
     }
@@ -219,82 +254,6 @@ fn patches_past_their_buffer_are_skipped() {
         case.patches.push(Patch { lent, index, value });
     }
     assert_eq!(answer(&case), plain);
-}
-
-#[test]
-fn a_seed_always_makes_the_same_stream() {
-    let stream = |seed, first, count| {
-        let mut bytes = Vec::new();
-        generate(seed, first, count, &mut bytes).expect("memory does not fail");
-        bytes
-    };
-    let long = stream(7, 0, 300);
-    assert_eq!(stream(7, 0, 300), long);
-    assert_eq!([stream(7, 0, 100), stream(7, 100, 200)].concat(), long);
-    assert_ne!(stream(8, 0, 100), stream(7, 0, 100));
-}
-
-#[test]
-fn generated_cases_survive_writing_and_reading() {
-    for number in 0..2_000 {
-        let case = case(3, number);
-        let bytes = bytes_of(&case);
-        assert_eq!(Case::read(&mut &bytes[..]).expect("a whole case"), case);
-    }
-}
-
-#[test]
-fn the_walk_passes_every_opcode() {
-    let passed: HashSet<Vec<u8>> = (0..LENGTH_OF_WALK).map(walk).collect();
-    assert_eq!(passed.len() as u64, LENGTH_OF_WALK);
-    for first in 0..=255u8 {
-        assert!(passed.contains(&vec![first]));
-        assert!(passed.contains(&vec![0x0F, first]));
-        for operands in 0..=255u8 {
-            let wanted = has_operands(first);
-            assert_eq!(
-                passed.contains(&vec![first, operands]),
-                wanted || first == 0x0F
-            );
-        }
-    }
-}
-
-#[test]
-fn generated_streams_reach_every_call_and_answer() {
-    let mut reached = HashSet::new();
-    for number in 0..12_000 {
-        let case = case(11, number);
-        reached.insert((case.call as u8, answer(&case)[0]));
-    }
-    let step = [0, 1, 2, 3, 4, 5, 6, 8].map(|number| (0, number));
-    let run = [0, 1, 2, 3, 5, 6, 8].map(|number| (1, number));
-    let interrupt = [0, 1, 2, 7, 13].map(|number| (2, number));
-    let reading = [0, 1, 2, 9].map(|number| (4, number));
-    for wanted in step.into_iter().chain(run).chain(interrupt).chain(reading) {
-        assert!(reached.contains(&wanted), "{wanted:?}");
-    }
-    assert!(reached.contains(&(3, 0)));
-}
-
-#[test]
-fn generated_streams_drop_bytes() {
-    // steps, runs and interrupts that drop an even and an odd number of bytes
-    let mut found = [[0; 2]; 3];
-    for number in 0..6_000 {
-        let case = case(11, number);
-        if case.call as usize >= found.len() {
-            continue;
-        }
-        let after = answer(&case);
-        let dropped = after[58..62].iter().any(|&byte| byte != 0);
-        found[case.call as usize][usize::from(after[58] & 1)] += u32::from(dropped);
-    }
-    for (call, least) in [(0, [500, 200]), (1, [20, 5]), (2, [50, 10])] {
-        for (number, least) in found[call].into_iter().zip(least) {
-            assert!(number >= least, "{found:?}");
-        }
-    }
 }
 
 #[test]
@@ -345,7 +304,7 @@ fn mismatches_are_told_in_words() {
     assert_eq!(
         (&text[..], mismatched),
         (
-            "2 step, 0 run, 0 interrupt, 0 reset, 0 log reading\n2 cases compared, 0 mismatched\n",
+            "2 step, 0 run, 0 interrupt, 0 reset, 0 log reading, 0 quicker run\n2 cases compared, 0 mismatched\n",
             0
         )
     );
@@ -362,6 +321,20 @@ fn mismatches_are_told_in_words() {
         format!("{what}: PSW is F002h by A, F043h by B (differing: CY Z)")
     );
     assert_eq!(lines[3], "2 cases compared, 1 mismatched");
+}
+
+#[test]
+fn a_mismatched_reading_names_its_gap_rule() {
+    let mut case = step_of(&[]);
+    (case.call, case.fill, case.gap_rule) = (Call::LogReading, 1, GapRule::New);
+    let cases = bytes_of(&case);
+    let good = answers_of(&cases);
+    let mut bad = good.clone();
+    bad[4] = 0x80;
+    let (text, _) = words_of(&cases, &good, &bad);
+    let what = "case 7: log reading at place 0 under the new gap rule";
+    let wanted = format!("{what}: the gap is 1 by A, 2147483649 by B");
+    assert_eq!(text.lines().next(), Some(&wanted[..]));
 }
 
 #[test]

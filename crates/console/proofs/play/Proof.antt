@@ -1,7 +1,7 @@
 -- The measure is a number of turns that no session uses up.
 use borrow.Author.Needs.{needs}
 use Prim.Native.Nat.{_-_, _≤_}
-use Rattle.session.specs.Turns.{Plays}
+use Rattle.console_session.specs.Turns.{Plays}
 use Rattle.console.proofs.PlayLaws.{from-reset, at-first, over-early, one-more, all-spent}
 use lib.ListN.{length}
 use mathlib.Core.Path.{_≡_}

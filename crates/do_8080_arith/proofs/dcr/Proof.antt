@@ -1,5 +1,5 @@
 use Rattle.do_8080_arith.proofs.Laws.{changing-is}
-use Rattle.tally.proofs.Laws.{sums}
+use Rattle.mach_tally.proofs.Laws.{sums}
 use borrow.Author.Needs.{needs}
 use Rattle.do_8080_arith.proofs.dcr.Statement.{statement}
 use Rattle.do_8080_arith.proofs.dcr.Tie as tie

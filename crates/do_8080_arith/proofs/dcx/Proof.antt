@@ -1,5 +1,5 @@
 use Rattle.do_8080_arith.proofs.Laws.{counting-is}
-use Rattle.tally.proofs.Laws.{sums}
+use Rattle.mach_tally.proofs.Laws.{sums}
 use borrow.Author.Needs.{needs}
 use Rattle.do_8080_arith.proofs.dcx.Statement.{statement}
 use Rattle.do_8080_arith.proofs.dcx.Tie as tie

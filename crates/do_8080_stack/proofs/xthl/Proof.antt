@@ -1,4 +1,4 @@
-use Rattle.tally.proofs.Laws.{sums}
+use Rattle.mach_tally.proofs.Laws.{sums}
 use Rattle.do_8080_stack.proofs.Laws.{xthl-is}
 use borrow.Author.Needs.{needs}
 use Rattle.do_8080_stack.proofs.xthl.Statement.{statement}

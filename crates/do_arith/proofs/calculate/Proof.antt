@@ -1,4 +1,4 @@
-use Rattle.sheet.specs.Execute.{calculate}
+use Rattle.sheet.specs.Arithmetic.{calculate}
 use Rattle.sheet.proofs.Lifted.{memory-known}
 use borrow.Author.Needs.{needs}
 use Rattle.do_arith.proofs.calculate.Statement.{statement}

@@ -1,4 +1,4 @@
-use Rattle.tally.proofs.Laws.{sums}
+use Rattle.mach_tally.proofs.Laws.{sums}
 use Rattle.sheet.specs.Arithmetic.{conclude}
 use Rattle.do_arith.proofs.Laws.{concludes, drops-cmp}
 use borrow.Author.Needs.{needs}

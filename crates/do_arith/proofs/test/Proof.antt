@@ -1,4 +1,4 @@
-use Rattle.tally.proofs.Laws.{sums}
+use Rattle.mach_tally.proofs.Laws.{sums}
 use Rattle.do_arith.proofs.Laws.{test-is}
 use borrow.Author.Needs.{needs}
 use Rattle.do_arith.proofs.test.Statement.{statement}

@@ -1,4 +1,4 @@
-use Rattle.tally.proofs.Laws.{memory-three}
+use Rattle.mach_tally.proofs.Laws.{memory-three}
 use Rattle.do_arith.proofs.Laws.{two-is}
 use borrow.Author.Needs.{needs}
 use Rattle.do_arith.proofs.two.Statement.{statement}

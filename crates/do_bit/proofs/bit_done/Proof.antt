@@ -1,4 +1,4 @@
-use Rattle.tally.proofs.Laws.{sums}
+use Rattle.mach_tally.proofs.Laws.{sums}
 use Rattle.sheet.specs.Bits.{bitDone}
 use Rattle.do_bit.proofs.Laws.{at-not, at-test, bit-known}
 use borrow.Author.Needs.{needs}

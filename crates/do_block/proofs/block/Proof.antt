@@ -1,6 +1,6 @@
-use Rattle.tally.proofs.Laws.{memory-none}
+use Rattle.mach_tally.proofs.Laws.{memory-none}
 use Rattle.sheet.proofs.Lifted.{file-pure, on-memory}
-use Rattle.elements.specs.Due.{dueTree}
+use Rattle.mach_element.specs.Due.{dueTree}
 use Rattle.do_block.proofs.Laws.{due-known}
 use borrow.Author.Needs.{needs}
 use Rattle.do_block.proofs.block.Statement.{statement}

@@ -1,4 +1,4 @@
-use Rattle.psw.proofs.Results.{file-affect}
+use Rattle.calc_psw.proofs.Results.{file-affect}
 use borrow.Author.Needs.{needs}
 use Rattle.do_block.proofs.compare.Statement.{statement}
 use Rattle.do_block.proofs.compare.Tie as tie

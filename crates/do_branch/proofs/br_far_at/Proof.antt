@@ -1,4 +1,4 @@
-use Rattle.tally.proofs.Laws.{sums}
+use Rattle.mach_tally.proofs.Laws.{sums}
 use Rattle.do_branch.proofs.Laws.{br-far-at-is}
 use borrow.Author.Needs.{needs}
 use Rattle.do_branch.proofs.br_far_at.Statement.{statement}

@@ -1,4 +1,4 @@
-use Rattle.tally.proofs.Laws.{sums}
+use Rattle.mach_tally.proofs.Laws.{sums}
 use Rattle.sheet.specs.Branch.{branch}
 use Rattle.sheet.proofs.Lifted.{memory-known}
 use Rattle.do_branch.proofs.Laws.{jump-known}

@@ -1,4 +1,4 @@
-use Rattle.tally.proofs.Laws.{sums}
+use Rattle.mach_tally.proofs.Laws.{sums}
 use Rattle.do_branch.proofs.Laws.{ret-far-is}
 use borrow.Author.Needs.{needs}
 use Rattle.do_branch.proofs.ret_far.Statement.{statement}

@@ -1,4 +1,4 @@
-use Rattle.tally.proofs.Laws.{sums}
+use Rattle.mach_tally.proofs.Laws.{sums}
 use Rattle.do_call.proofs.Laws.{call-far-at-is}
 use borrow.Author.Needs.{needs}
 use Rattle.do_call.proofs.call_far_at.Statement.{statement}

@@ -1,4 +1,4 @@
-use Rattle.tally.proofs.Laws.{sums}
+use Rattle.mach_tally.proofs.Laws.{sums}
 use Rattle.do_call.proofs.Laws.{call-held-is}
 use borrow.Author.Needs.{needs}
 use Rattle.do_call.proofs.call_held.Statement.{statement}

@@ -1,4 +1,4 @@
-use Rattle.sheet.specs.Execute.{convert}
+use Rattle.sheet.specs.Convert.{convert}
 use Rattle.sheet.proofs.Lifted.{file-known}
 use borrow.Author.Needs.{needs}
 use Rattle.do_convert.proofs.convert.Statement.{statement}

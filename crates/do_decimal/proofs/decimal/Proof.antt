@@ -1,4 +1,4 @@
-use Rattle.sheet.specs.Execute.{decimal}
+use Rattle.sheet.specs.Decimal.{decimal}
 use Rattle.sheet.proofs.Lifted.{memory-known}
 use borrow.Author.Needs.{needs}
 use Rattle.do_decimal.proofs.decimal.Statement.{statement}

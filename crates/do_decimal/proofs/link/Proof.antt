@@ -1,4 +1,4 @@
-use Rattle.tally.proofs.Laws.{sums}
+use Rattle.mach_tally.proofs.Laws.{sums}
 use Rattle.do_decimal.proofs.Laws.{link-compares, link-stores}
 use borrow.Author.Needs.{needs}
 use Rattle.do_decimal.proofs.link.Statement.{statement}

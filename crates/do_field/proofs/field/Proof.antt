@@ -1,4 +1,4 @@
-use Rattle.sheet.specs.Execute.{field}
+use Rattle.sheet.specs.Fields.{field}
 use Rattle.sheet.proofs.Lifted.{memory-known}
 use borrow.Author.Needs.{needs}
 use Rattle.do_field.proofs.field.Statement.{statement}

@@ -1,4 +1,4 @@
-use Rattle.tally.proofs.Laws.{sums}
+use Rattle.mach_tally.proofs.Laws.{sums}
 use Rattle.do_field.proofs.Laws.{ins-is}
 use borrow.Author.Needs.{needs}
 use Rattle.do_field.proofs.ins.Statement.{statement}

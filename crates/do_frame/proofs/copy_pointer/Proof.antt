@@ -1,4 +1,4 @@
-use Rattle.tally.proofs.Laws.{sums}
+use Rattle.mach_tally.proofs.Laws.{sums}
 use Rattle.do_frame.proofs.Laws.{pointer-is}
 use borrow.Author.Needs.{needs}
 use Rattle.do_frame.proofs.copy_pointer.Statement.{statement}

@@ -1,4 +1,4 @@
-use Rattle.tally.proofs.Laws.{sums}
+use Rattle.mach_tally.proofs.Laws.{sums}
 use Rattle.do_frame.proofs.Laws.{frames-are, no-frames}
 use borrow.Author.Needs.{needs}
 use Rattle.do_frame.proofs.frames.Statement.{statement}

@@ -1,4 +1,4 @@
-use Rattle.tally.proofs.Laws.{sums}
+use Rattle.mach_tally.proofs.Laws.{sums}
 use Rattle.do_interrupt.proofs.Laws.{goes-on, traps}
 use borrow.Author.Needs.{needs}
 use Rattle.do_interrupt.proofs.trap_if.Statement.{statement}

@@ -1,4 +1,4 @@
-use Rattle.tally.proofs.Laws.{sums}
+use Rattle.mach_tally.proofs.Laws.{sums}
 use Rattle.sheet.specs.Multiply.{div, signedQuotient}
 use Rattle.do_multiply.proofs.Laws.{quotient-by, signed-within}
 use borrow.Author.Needs.{needs}

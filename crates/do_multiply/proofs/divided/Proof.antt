@@ -1,4 +1,4 @@
-use Rattle.tally.proofs.Laws.{sums}
+use Rattle.mach_tally.proofs.Laws.{sums}
 use Rattle.do_multiply.proofs.Laws.{both-held, quotient-is, trap-is}
 use borrow.Author.Needs.{needs}
 use Rattle.do_multiply.proofs.divided.Statement.{statement}

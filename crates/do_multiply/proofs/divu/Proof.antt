@@ -1,4 +1,4 @@
-use Rattle.tally.proofs.Laws.{sums}
+use Rattle.mach_tally.proofs.Laws.{sums}
 use Rattle.sheet.specs.Multiply.{divu, unsignedQuotient}
 use Rattle.do_multiply.proofs.Laws.{quotient-by, unsigned-within}
 use borrow.Author.Needs.{needs}

@@ -1,5 +1,5 @@
 use Rattle.sheet.proofs.Lifted.{memory-known}
-use Rattle.sheet.specs.Execute.{multiply}
+use Rattle.sheet.specs.Multiply.{multiply}
 use Rattle.do_multiply.proofs.Laws.{product-known}
 use borrow.Author.Needs.{needs}
 use Rattle.do_multiply.proofs.multiply.Statement.{statement}

@@ -1,5 +1,5 @@
 use Rattle.sheet.specs.Ports.{ports}
-use Rattle.ports.proofs.Told.{ports-known}
+use Rattle.mach_ports.proofs.Told.{ports-known}
 use borrow.Author.Needs.{needs}
 use Rattle.do_port.proofs.access.Statement.{statement}
 use Rattle.do_port.proofs.access.Tie as tie

@@ -1,4 +1,4 @@
-use Rattle.tally.proofs.Laws.{sums}
+use Rattle.mach_tally.proofs.Laws.{sums}
 use Rattle.do_stack.proofs.Laws.{pop-place-is}
 use borrow.Author.Needs.{needs}
 use Rattle.do_stack.proofs.pop_place.Statement.{statement}

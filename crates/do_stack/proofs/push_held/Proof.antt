@@ -1,4 +1,4 @@
-use Rattle.tally.proofs.Laws.{sums}
+use Rattle.mach_tally.proofs.Laws.{sums}
 use Rattle.do_stack.proofs.Laws.{push-held-is}
 use borrow.Author.Needs.{needs}
 use Rattle.do_stack.proofs.push_held.Statement.{statement}

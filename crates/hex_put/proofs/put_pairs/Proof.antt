@@ -1,6 +1,6 @@
 use borrow.Author.Needs.{needs}
 use Rattle.hex_form.specs.Writing.{pairs}
-use Rattle.line.specs.Adds.{Adds}
+use Rattle.base_line.specs.Adds.{Adds}
 use denote.Ref.{now}
 use lib.Seq.{take-all}
 use lib.ListN.{length, take}

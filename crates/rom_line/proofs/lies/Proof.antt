@@ -1,5 +1,5 @@
 use borrow.Author.Needs.{needs}
-use Rattle.romlist.specs.Listing.{whole}
+use Rattle.rom_form.specs.Listing.{whole}
 use Rattle.rom_line.proofs.lies.Statement.{statement}
 use Rattle.rom_line.proofs.lies.Tie as tie
 

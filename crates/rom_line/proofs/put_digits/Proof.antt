@@ -5,8 +5,8 @@ use lib.ListN.{length, take}
 use lib.Seq.{take-all}
 use borrow.Author.Needs.{needs}
 use denote.Ref.{now}
-use Rattle.line.specs.Adds.{Adds}
-use Rattle.romlist.specs.Listing.{bytesText}
+use Rattle.base_line.specs.Adds.{Adds}
+use Rattle.rom_form.specs.Listing.{bytesText}
 use Rattle.rom_line.proofs.Laws.{no-digits, more-digits}
 use Rattle.rom_line.proofs.put_digits.Statement.{statement}
 use Rattle.rom_line.proofs.put_digits.Tie as tie

@@ -4,8 +4,8 @@ use mathlib.Core.Path.{_≡_}
 use native.Mathlib.Omega.{arith}
 use lib.ListN.{replicate}
 use borrow.Author.Needs.{needs}
-use Rattle.line.specs.Adds.{Adds}
-use Rattle.line.proofs.Laws.{nothing}
+use Rattle.base_line.specs.Adds.{Adds}
+use Rattle.base_line.proofs.Laws.{nothing}
 use Rattle.rom_line.proofs.Laws.{more-spaces}
 use Rattle.rom_line.proofs.put_spaces.Statement.{statement}
 use Rattle.rom_line.proofs.put_spaces.Tie as tie

@@ -7,16 +7,16 @@ use crate::state::{BRK, SP, SS, V};
 
 const STACK_TOPS: [u16; 12] = [0, 1, 2, 3, 4, 5, 0x10, 0x11, 0xFFFC, 0xFFFD, 0xFFFE, 0xFFFF];
 
-/// SP at the ends of its segment as often as not, odd and even.
-fn choose_stack_top(draft: &mut Draft) {
+/// A stack pointer at the ends of its segment as often as not, odd and even.
+pub fn choose_stack_top(draft: &mut Draft, pointer: usize) {
     if draft.random.one_in(2) {
-        draft.case.state.general[SP] = draft.random.pick(&STACK_TOPS);
+        draft.case.state.general[pointer] = draft.random.pick(&STACK_TOPS);
     }
 }
 
 /// Pushes, pops, calls and returns.
 pub fn stack(draft: &mut Draft) {
-    choose_stack_top(draft);
+    choose_stack_top(draft, SP);
     draft.put_data();
     let segment = draft.case.state.segment[SS];
     let top = draft.case.state.general[SP];
@@ -42,7 +42,7 @@ pub fn stack(draft: &mut Draft) {
 
 /// Stack frames of every level, also over their own pointers.
 pub fn prepare(draft: &mut Draft) {
-    choose_stack_top(draft);
+    choose_stack_top(draft, SP);
     if draft.random.one_in(3) {
         let near = draft.random.below(9) as u16;
         draft.case.state.general[5] = draft.case.state.general[SP].wrapping_add(near);
@@ -59,7 +59,7 @@ pub fn prepare(draft: &mut Draft) {
 
 /// Instructions that trap, with and without the single-step flag.
 pub fn trap(draft: &mut Draft) {
-    choose_stack_top(draft);
+    choose_stack_top(draft, SP);
     if draft.random.one_in(2) {
         draft.case.state.psw ^= BRK;
     }
@@ -85,7 +85,7 @@ pub fn trap(draft: &mut Draft) {
 
 /// MOV and POP into segment registers and what is much like them, with and without the single-step flag.
 pub fn segment_load(draft: &mut Draft) {
-    choose_stack_top(draft);
+    choose_stack_top(draft, SP);
     if draft.random.one_in(2) {
         draft.case.state.psw ^= BRK;
     }
@@ -107,7 +107,7 @@ pub fn segment_load(draft: &mut Draft) {
 
 /// POP PSW and RETI of any word, also over the single-step flag.
 pub fn popped_flags(draft: &mut Draft) {
-    choose_stack_top(draft);
+    choose_stack_top(draft, SP);
     if draft.random.one_in(2) {
         draft.case.state.psw ^= BRK;
     }
@@ -142,7 +142,7 @@ pub fn prefix_set(draft: &mut Draft) {
 }
 
 pub fn interrupt(draft: &mut Draft) {
-    choose_stack_top(draft);
+    choose_stack_top(draft, SP);
     draft.put_data();
     enter_interrupt(draft);
 }

@@ -2,7 +2,9 @@
 
 use super::draft::Draft;
 use super::encodings;
-use crate::state::{AW, COUNT_LIMIT, CW, DS0, DS1, DW, IX, IY};
+use super::gaps;
+use crate::portlog::LONGEST_RECORD;
+use crate::state::{AW, CW, DS0, DS1, DW, IX, IY};
 
 /// Counts up to 255 on both sides of every width.
 pub fn shift(draft: &mut Draft) {
@@ -207,6 +209,19 @@ pub fn block(draft: &mut Draft) {
     draft.put_code(&code);
 }
 
+/// Leaves little of the tape and little room in the log.
+pub fn use_up_tape_and_log(draft: &mut Draft) {
+    let tape_length = draft.case.tape.len() as u32;
+    let unread = draft.random.below(4).min(tape_length);
+    draft.case.state.tape_place = tape_length - unread;
+    let rooms = LONGEST_RECORD as u32 + 2;
+    let room = draft
+        .random
+        .below(rooms)
+        .min(u32::from(draft.case.log_length));
+    draft.case.state.log_place = u32::from(draft.case.log_length) - room;
+}
+
 /// Ports with the tape and the log at their ends and numbers at their group limits.
 pub fn port(draft: &mut Draft) {
     let at_group_limits = [
@@ -214,16 +229,11 @@ pub fn port(draft: &mut Draft) {
     ];
     draft.case.state.general[DW] = draft.random.pick(&at_group_limits);
     draft.case.state.general[AW] = draft.random.pick(&at_group_limits);
-    draft.case.state.count = match draft.random.below(5) {
-        0 => draft.random.pick(&[126, 127, 16_382, 16_383]),
-        1 => COUNT_LIMIT - draft.random.below(2),
+    draft.case.state.count = match draft.random.below(4) {
+        0 => gaps::about_a_ceiling(&mut draft.random),
         _ => draft.some_count(),
     };
-    let tape_length = draft.case.tape.len() as u32;
-    let unread = draft.random.below(4).min(tape_length);
-    draft.case.state.tape_place = tape_length - unread;
-    let room = draft.random.below(11).min(u32::from(draft.case.log_length));
-    draft.case.state.log_place = u32::from(draft.case.log_length) - room;
+    use_up_tape_and_log(draft);
     if draft.random.one_in(2) {
         let word = draft.random.pick(&at_group_limits).to_le_bytes();
         let place = draft.case.state.tape_place as usize;

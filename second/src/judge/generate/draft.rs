@@ -1,9 +1,12 @@
 //! A case in the making: random state and memory, then bytes put where they are wanted.
 
+use super::gaps;
 use super::random::Random;
+use crate::gap_rule::GapRule;
 use crate::judge::case::{Call, Case, Lent, Patch, MOST_PATCHES};
 use crate::memory::{address, ADDRESS_SPACE};
-use crate::state::{State, BP, BRK, BW, COUNT_LIMIT, DS0, DS1, IX, IY, PS, SS};
+use crate::portlog::LONGEST_RECORD;
+use crate::state::{State, BP, BRK, BW, DS0, DS1, IX, IY, PS, SS};
 
 pub struct Draft {
     pub random: Random,
@@ -22,8 +25,9 @@ impl Draft {
             budget: 0,
             ram_length,
             rom_length,
-            log_length: random.between(9, 40) as u16,
+            log_length: random.between(LONGEST_RECORD as u32, 40) as u16,
             fill: random.pick(&[0x00, 0xFF, 0x90, 0x5A]),
+            gap_rule: random.pick(&[GapRule::Old, GapRule::New]),
             patches: Vec::new(),
             tape: (0..random.between(2, 8))
                 .map(|_| random.some_byte())
@@ -104,16 +108,15 @@ impl Draft {
         let tape_length = self.case.tape.len() as u32;
         let log_length = u32::from(self.case.log_length);
         self.case.state.tape_place = self.random.below(tape_length - 1);
-        self.case.state.log_place = self.random.below(log_length - 8);
+        let last_place = log_length - LONGEST_RECORD as u32;
+        self.case.state.log_place = self.random.between(0, last_place);
         self.case.state.count = self.some_count();
     }
 
     pub fn some_count(&mut self) -> u32 {
         match self.random.below(4) {
             0 => 0,
-            1 => self.random.pick(&[126, 127, 128, 16_382, 16_383, 16_384]),
-            2 => COUNT_LIMIT - self.random.below(3),
-            _ => self.random.below(COUNT_LIMIT + 1),
+            _ => gaps::some_gap(&mut self.random),
         }
     }
 

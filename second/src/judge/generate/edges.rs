@@ -2,12 +2,13 @@
 
 use super::draft::Draft;
 use super::encodings;
+use super::gaps;
 use crate::judge::case::{Call, LARGEST_MEMORY};
 use crate::memory::ADDRESS_SPACE;
-use crate::state::{BP, COUNT_LIMIT, DS0, DS1, IX, IY, SP, SS};
+use crate::state::{BP, DS0, DS1, IX, IY, SP, SS};
 
 /// Code that begins shortly before RAM's end, ROM's start, the last address or the last offset.
-pub fn code_at_an_edge(draft: &mut Draft) {
+pub fn choose_code_place(draft: &mut Draft) {
     let space = ADDRESS_SPACE as u32;
     let before = draft.random.between(1, 8);
     let edge = match draft.random.below(4) {
@@ -24,6 +25,11 @@ pub fn code_at_an_edge(draft: &mut Draft) {
     } else {
         draft.set_code_place(place);
     }
+}
+
+/// Any instruction there.
+pub fn code_at_an_edge(draft: &mut Draft) {
+    choose_code_place(draft);
     let count = draft.random.below(3);
     let mut code = encodings::prefixes(&mut draft.random, count);
     let opcode = encodings::random_opcode(&mut draft.random);
@@ -32,8 +38,8 @@ pub fn code_at_an_edge(draft: &mut Draft) {
     draft.put_code(&code);
 }
 
-/// An operand that crosses the end of its segment, RAM's end, ROM's start or the last address.
-pub fn operand_at_an_edge(draft: &mut Draft) {
+/// Segment and offset of an operand that crosses the end of its segment, RAM's end, ROM's start or the last address.
+pub fn choose_operand_place(draft: &mut Draft) -> (u16, u16) {
     let space = ADDRESS_SPACE as u32;
     let before = draft.random.between(1, 4);
     let low_paragraphs = (draft.case.ram_length / 16).clamp(1, 0xFFF);
@@ -46,6 +52,11 @@ pub fn operand_at_an_edge(draft: &mut Draft) {
     let high_bits = draft.random.pick(&[0xFFF0, 0xFFF0, 0x0000, 0x1230]);
     let offset = high_bits | place as u16 & 0x0F;
     let segment = (place.wrapping_sub(u32::from(offset)) >> 4) as u16;
+    (segment, offset)
+}
+
+pub fn operand_at_an_edge(draft: &mut Draft) {
+    let (segment, offset) = choose_operand_place(draft);
     aim(draft, segment, offset);
     let mut code = opcode_with_direct_address(draft);
     code.extend(offset.to_le_bytes());
@@ -124,10 +135,8 @@ fn spoil(draft: &mut Draft) {
             let beyond = draft.random.pick(&[0, 1, 2, 0x1_0000]);
             draft.case.state.log_place = u32::from(draft.case.log_length) + beyond;
         }
-        7 | 8 => {
-            let counts = [COUNT_LIMIT - 1, COUNT_LIMIT, COUNT_LIMIT + 1, u32::MAX];
-            draft.case.state.count = draft.random.pick(&counts);
-        }
+        // no count is refused, also those that no old log could hold
+        7 | 8 => draft.case.state.count = gaps::about_a_ceiling(&mut draft.random),
         9 | 10 => draft.case.state.halted = true,
         // whole address spaces are slow to fill, so they are rare
         _ if draft.random.one_in(4) => {

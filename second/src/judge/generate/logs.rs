@@ -1,26 +1,33 @@
 //! Readings of logs, sound and damaged.
 
 use super::draft::Draft;
+use super::gaps;
 use crate::judge::case::{Call, Lent};
-use crate::portlog::Record;
-use crate::state::COUNT_LIMIT;
+use crate::portlog::{Record, LONGEST_RECORD};
 
-/// Records on both sides of what is well formed.
-const AT_THE_LIMITS: [&[u8]; 17] = [
-    // four groups, as gap, key and value
+/// Records on both sides of what is well formed, under one rule or both.
+const AT_THE_LIMITS: [&[u8]; 22] = [
+    // gaps of four, five and six groups
     &[0x81, 0x80, 0x80, 0x01, 0x00, 0x00],
+    &[0x80, 0x80, 0x80, 0x80, 0x01, 0x00, 0x00],
+    &[0xFF, 0xFF, 0xFF, 0xFF, 0x8F, 0x01, 0x00, 0x00],
+    // the new ceiling and one more
+    &[0xFF, 0xFF, 0xFF, 0xFF, 0x0F, 0x00, 0x00],
+    &[0x80, 0x80, 0x80, 0x80, 0x10, 0x00, 0x00],
+    // four groups, as key and value
     &[0x05, 0x81, 0x80, 0x80, 0x01, 0x00],
     &[0x05, 0x02, 0x81, 0x80, 0x80, 0x01],
     // a group too many
     &[0x81, 0x00, 0x00, 0x00],
     &[0x81, 0x80, 0x00, 0x00, 0x00],
+    &[0x81, 0x80, 0x80, 0x80, 0x00, 0x00, 0x00],
     &[0x05, 0x81, 0x00, 0x05],
     &[0x05, 0x80, 0x00, 0x05],
     &[0x05, 0x02, 0x85, 0x80, 0x00],
     &[0x05, 0x01, 0x85, 0x00],
     // gap 0
     &[0x00, 0x00, 0x00],
-    // keys 262,143, 262,144 and 2,097,151
+    // keys 262,143 and 262,144, and the largest of three groups
     &[0x05, 0xFF, 0xFF, 0x0F, 0x00],
     &[0x05, 0x80, 0x80, 0x10, 0x00],
     &[0x05, 0xFF, 0xFF, 0x7F, 0x00],
@@ -38,7 +45,7 @@ pub fn reading(draft: &mut Draft) {
     if draft.random.one_in(2) {
         damage(draft, &mut log, place);
     }
-    if draft.random.one_in(8) {
+    if draft.random.one_in(4) {
         place = draft.random.below(log.len() as u32 + 3);
     }
     draft.case.state.log_place = place;
@@ -54,7 +61,7 @@ fn sound_log(draft: &mut Draft) -> (Vec<u8>, Vec<u32>) {
     let mut starts = vec![0];
     for _ in 0..draft.random.below(6) {
         let record = some_record(draft);
-        let mut bytes = [0; 9];
+        let mut bytes = [0; LONGEST_RECORD];
         let length = record.write(&mut bytes).unwrap_or(0);
         log.extend(&bytes[..length]);
         starts.push(log.len() as u32);
@@ -63,12 +70,7 @@ fn sound_log(draft: &mut Draft) -> (Vec<u8>, Vec<u32>) {
 }
 
 fn some_record(draft: &mut Draft) -> Record {
-    let limits = [1, 2, 127, 128, 16_383, 16_384, COUNT_LIMIT - 1, COUNT_LIMIT];
-    let gap = if draft.random.one_in(2) {
-        draft.random.pick(&limits)
-    } else {
-        draft.random.between(1, COUNT_LIMIT)
-    };
+    let gap = gaps::some_gap(&mut draft.random);
     let key = u32::from(draft.random.some_word()) << 2 | draft.random.below(4);
     let widest = if key & 2 == 0 { 0xFF } else { 0xFFFF };
     let value = u32::from(draft.random.some_word()) & widest;
@@ -80,10 +82,15 @@ fn damage(draft: &mut Draft, log: &mut Vec<u8>, start: u32) {
     let start = start as usize;
     match draft.random.below(8) {
         0 => {
-            let kept = start + draft.random.below(4) as usize;
+            let kept = start + draft.random.below(8) as usize;
             log.truncate(kept);
         }
         1 => flip_a_byte(draft, log),
+        2..=4 => {
+            let mut record = gaps::gap_bytes(&mut draft.random);
+            record.extend([0x81, 0x03, 0x41]);
+            log.splice(start.., record);
+        }
         _ => {
             let record = draft.random.pick(&AT_THE_LIMITS);
             log.splice(start.., record.iter().copied());

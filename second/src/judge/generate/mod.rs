@@ -1,16 +1,22 @@
 //! Makes case streams: a walk over every opcode, mixed with cases aimed at single rules.
 
+mod card_programs;
+mod cards;
 mod control;
 mod data;
 mod draft;
 mod drops;
 mod edges;
 pub mod encodings;
+mod gaps;
 mod logs;
 mod programs;
 pub mod random;
+mod rewriting;
+mod runs;
 
-use crate::judge::case::Case;
+use crate::cards::Cards;
+use crate::judge::case::{Call, Case};
 use draft::Draft;
 use random::Random;
 use std::io::{self, Write};
@@ -20,19 +26,19 @@ type Family = fn(&mut Draft);
 /// Every so many cases one is the next of the walk.
 const WALK_PERIOD: u64 = 4;
 
-/// Families of cases and how many of a thousand each gets among the others.
+/// Families of cases and the share that each gets among the others.
 const FAMILIES: [(u32, Family); 25] = [
     (70, any_instruction),
-    (55, data::shift),
+    (45, data::shift),
     (45, data::divide),
     (20, data::multiply),
     (25, data::adjust),
     (40, data::decimal_strings),
     (35, data::bit_field),
     (25, data::bounded_arithmetic),
-    (70, data::block),
+    (60, data::block),
     (65, data::port),
-    (50, control::stack),
+    (40, control::stack),
     (20, control::prepare),
     (30, control::trap),
     (20, control::popped_flags),
@@ -45,44 +51,105 @@ const FAMILIES: [(u32, Family); 25] = [
     (40, edges::bad_arguments),
     (40, drops::store),
     (20, drops::push),
-    (50, logs::reading),
+    (80, logs::reading),
     (100, programs::run),
 ];
 
-/// So many cases of a seed, from the case of the first number on.
-pub fn generate(seed: u64, first: u64, count: u64, stream: &mut impl Write) -> io::Result<()> {
-    for number in first..first.saturating_add(count) {
-        case(seed, number).write(stream)?;
-    }
-    Ok(())
+/// What a stream is made of.
+#[derive(Clone, Copy, Debug, PartialEq, Eq)]
+pub enum Stream {
+    /// Every call but the quicker run.
+    Calls,
+    Runs,
+    /// The same cases as runs, with the other call.
+    QuickerRuns,
+    /// Every call but the quicker run, in the 8080 mode and across its borders.
+    Cards,
+    /// The same cases, all as runs.
+    CardRuns,
+    QuickerCardRuns,
 }
 
-/// The case of a number; it does not depend on how many are made.
-pub fn case(seed: u64, number: u64) -> Case {
-    let mut draft = Draft::new(Random::for_case(seed, number));
+impl Stream {
+    /// Streams of the 8080 mode are there with the cards alone.
+    pub fn of_word(word: &str, cards: Cards) -> Option<Stream> {
+        match (word, cards) {
+            ("calls", _) => Some(Stream::Calls),
+            ("runs", _) => Some(Stream::Runs),
+            ("quicker-runs", _) => Some(Stream::QuickerRuns),
+            ("cards", Cards::In) => Some(Stream::Cards),
+            ("card-runs", Cards::In) => Some(Stream::CardRuns),
+            ("quicker-card-runs", Cards::In) => Some(Stream::QuickerCardRuns),
+            _ => None,
+        }
+    }
+
+    /// The case of a number; it does not depend on how many are made.
+    pub fn case(self, seed: u64, number: u64) -> Case {
+        match self {
+            Stream::Calls => {
+                let mut draft = Draft::new(Random::for_case(seed, number));
+                any_case(&mut draft, seed, number);
+                draft.case
+            }
+            Stream::Runs => runs::case(seed, number, Call::Run),
+            Stream::QuickerRuns => runs::case(seed, number, Call::QuickerRun),
+            Stream::Cards => cards::case(seed, number),
+            Stream::CardRuns => as_run(cards::case(seed, number), Call::Run, number),
+            Stream::QuickerCardRuns => as_run(cards::case(seed, number), Call::QuickerRun, number),
+        }
+    }
+
+    /// So many cases of a seed, from the case of the first number on.
+    pub fn write(
+        self,
+        seed: u64,
+        first: u64,
+        count: u64,
+        output: &mut impl Write,
+    ) -> io::Result<()> {
+        for number in first..first.saturating_add(count) {
+            self.case(seed, number).write(output)?;
+        }
+        Ok(())
+    }
+}
+
+/// A case of any call as a run; one that was none gets a budget of a few steps.
+fn as_run(mut case: Case, way: Call, number: u64) -> Case {
+    if case.call != Call::Run {
+        case.budget = 1 + (number % 3) as u16;
+    }
+    case.call = way;
+    case
+}
+
+/// The next opcode of the walk, or a case of a family.
+fn any_case(draft: &mut Draft, seed: u64, number: u64) {
     match number % WALK_PERIOD {
         0 => {
             let start = seed.wrapping_mul(100_003);
             let opcode = encodings::walk(start.wrapping_add(number / WALK_PERIOD));
-            instruction(&mut draft, opcode);
+            instruction(draft, opcode);
         }
         _ => {
-            let family = draw_family(&mut draft);
-            family(&mut draft);
+            let family = draw(&FAMILIES, &mut draft.random);
+            family(draft);
         }
     }
-    draft.case
 }
 
-fn draw_family(draft: &mut Draft) -> Family {
-    let mut lot = draft.random.below(1000);
-    for (share, family) in FAMILIES {
+/// One of the families, each by its share.
+fn draw(families: &[(u32, Family)], random: &mut Random) -> Family {
+    let all_shares = families.iter().map(|(share, _)| share).sum();
+    let mut lot = random.below(all_shares);
+    for &(share, family) in families {
         if lot < share {
             return family;
         }
         lot -= share;
     }
-    any_instruction
+    unreachable!("a lot lies below the sum of all shares")
 }
 
 fn any_instruction(draft: &mut Draft) {

@@ -2,14 +2,15 @@
 
 use super::draft::Draft;
 use super::encodings;
+use crate::gap_rule::GapRule;
 use crate::judge::case::Call;
 use crate::judge::names;
-use crate::state::{BP, BRK, BW, COUNT_LIMIT, CW, DS0, DS1, DW, IX, IY, PS, SP, SS};
+use crate::state::{BP, BRK, BW, CW, DS0, DS1, DW, IX, IY, PS, SP, SS};
 
 const RETURN_FROM_INTERRUPT: u8 = 0xCF;
 const HANDLER: u16 = 0x3F0;
-const START: u16 = 0x400;
-const DATA: u16 = 0x600;
+pub const START: u16 = 0x400;
+pub const DATA: u16 = 0x600;
 
 /// A run of one of the programs, with a budget from none to all.
 pub fn run(draft: &mut Draft) {
@@ -21,7 +22,12 @@ pub fn run(draft: &mut Draft) {
         _ => draft.random.below(200) as u16,
     };
     lay_out(draft);
-    let program = match draft.random.below(22) {
+    let program = any_program(draft);
+    draft.put(0, START, &program);
+}
+
+pub fn any_program(draft: &mut Draft) -> Vec<u8> {
+    match draft.random.below(22) {
         0 | 1 => counted_loop(draft),
         2 | 3 => repeat_over_itself(draft),
         4 | 5 => port_loop(draft),
@@ -31,12 +37,11 @@ pub fn run(draft: &mut Draft) {
         12 => slide_over_the_end(draft),
         13 | 14 => stack_loads(draft),
         _ => random_loop(draft),
-    };
-    draft.put(0, START, &program);
+    }
 }
 
 /// Small RAM with vectors to a handler that returns, and pointers into RAM.
-fn lay_out(draft: &mut Draft) {
+pub fn lay_out(draft: &mut Draft) {
     draft.case.ram_length = if draft.random.one_in(4) {
         // stack and data lie past RAM, or its end lies among them
         u32::from(DATA) + draft.random.below(0x220)
@@ -77,7 +82,7 @@ fn lay_out(draft: &mut Draft) {
 }
 
 /// Closes a loop over all that stands before it.
-fn closed(mut program: Vec<u8>) -> Vec<u8> {
+pub fn closed(mut program: Vec<u8>) -> Vec<u8> {
     let back = (program.len() as u16 + 3).wrapping_neg();
     program.push(0xE9);
     program.extend(back.to_le_bytes());
@@ -97,7 +102,7 @@ fn random_loop(draft: &mut Draft) -> Vec<u8> {
 }
 
 /// A random instruction with all its bytes; those that lose the program are rare.
-fn tame_instruction(draft: &mut Draft) -> Vec<u8> {
+pub fn tame_instruction(draft: &mut Draft) -> Vec<u8> {
     loop {
         let opcode = encodings::random_opcode(&mut draft.random);
         if !is_wild(&opcode) || draft.random.one_in(30) {
@@ -228,10 +233,11 @@ fn stack_loads(draft: &mut Draft) -> Vec<u8> {
     closed(program)
 }
 
-/// The count reaches its limit, then a record is written.
+/// The count reaches a ceiling, where it stops or, at the old one, goes on; then a record is written.
 fn long_quiet_spell(draft: &mut Draft) -> Vec<u8> {
     let spell = draft.random.between(1, 30);
-    draft.case.state.count = COUNT_LIMIT - draft.random.below(spell + 3);
+    let rule = draft.random.pick(&[GapRule::Old, GapRule::New]);
+    draft.case.state.count = rule.ceiling() - draft.random.below(spell + 3);
     draft.case.state.psw &= !BRK;
     let mut program = vec![0x90; spell as usize];
     program.extend([0xE6, draft.random.byte()]);

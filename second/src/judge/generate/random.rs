@@ -45,6 +45,10 @@ impl Random {
         self.next() as u16
     }
 
+    pub fn double_word(&mut self) -> u32 {
+        self.next() as u32
+    }
+
     pub fn pick<T: Copy>(&mut self, choices: &[T]) -> T {
         choices[self.below(choices.len() as u32) as usize]
     }

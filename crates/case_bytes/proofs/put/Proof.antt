@@ -1,0 +1,11 @@
+use lib.Seq.{set-out}
+use mathlib.Core.Path.{sym}
+use borrow.Author.Needs.{needs}
+use Rattle.case_bytes.proofs.put.Statement.{statement}
+use Rattle.case_bytes.proofs.put.Tie as tie
+
+returns-2 : tie.Need-returns-2
+returns-2 c = sym (set-out _ _ _ (search needs))
+
+pub put-spec : {M : Type 1} → statement M
+put-spec = tie.close (tie.spec (λ c. search needs) (λ c. search needs) (λ c. search needs) returns-2)

@@ -1,0 +1,149 @@
+// What a case asks for: its buffers laid out, its call made, and the bytes of the result.
+use case_form::Case;
+use sheet::Bus;
+use sheet::GapRule;
+use sheet::State;
+ghost use mathlib.Core.Path.{_≡_};
+ghost use Rattle.step_calls.specs.Calls.{Interrupts};
+ghost use Rattle.engine.specs.Steps.{Steps};
+ghost use Rattle.engine.specs.Runs.{Runs};
+ghost use Rattle.case_call.specs.Called.{stepsOf, resetAs, bytesOf, laid, Called, Result, Reading};
+
+// What the four calls on the machine come to.
+struct Done {
+    pub number: u8,
+    pub steps: u32,
+    pub state: State,
+    pub bus: Bus,
+}
+
+// How many steps a step with this answer did.
+fn steps_of(number: u8) -> u32
+    ensures { λ r. ⌜ r ≡ stepsOf number ⌝ }
+{
+    if number == 0 { 1 } else { 0 }
+}
+
+fn stepped(s: State, ram: &mut [u8], rom: &[u8], tape: &[u8], log: &mut [u8]) -> Done
+    ensures { λ r. ⌜ r .steps ≡ stepsOf (r .number) ⌝ }
+    ensures { λ r. ⌜ Steps s (now (ram .entry)) (now (rom .entry)) (now (tape .entry)) (now (log .entry)) (r .number) (r .state) (now (ram .exit)) (now (log .exit)) (r .bus) ⌝ }
+{
+    let a = engine::step(s, ram, rom, tape, log);
+    let state = a.state;
+    let bus = a.bus;
+    Done {
+        number: a.number,
+        steps: steps_of(a.number),
+        state,
+        bus,
+    }
+}
+
+fn ran(s: State, ram: &mut [u8], rom: &[u8], tape: &[u8], log: &mut [u8], budget: u16) -> Done
+    ensures { λ r. ⌜ Runs budget s (now (ram .entry)) (now (rom .entry)) (now (tape .entry)) (now (log .entry)) (r .number) (r .state) (now (ram .exit)) (now (log .exit)) (r .steps) (r .bus) ⌝ }
+{
+    let a = engine::run(s, ram, rom, tape, log, budget);
+    let state = a.state;
+    let bus = a.bus;
+    Done {
+        number: a.number,
+        steps: a.steps as u32,
+        state,
+        bus,
+    }
+}
+
+fn interrupted(
+    s: State,
+    ram: &mut [u8],
+    rom: &[u8],
+    tape: &[u8],
+    log: &[u8],
+    vector: u8,
+    maskable: bool,
+) -> Done
+    ensures { λ r. ⌜ r .steps ≡ 0 ⌝ }
+    ensures { λ r. ⌜ Interrupts vector maskable s (now (ram .entry)) (now (rom .entry)) (now (tape .entry)) (now (log .entry)) (r .number) (r .state) (now (ram .exit)) (r .bus) ⌝ }
+{
+    let a = step_calls::interrupt(s, ram, rom, tape, log, vector, maskable);
+    let state = a.state;
+    let bus = a.bus;
+    Done {
+        number: a.number,
+        steps: 0,
+        state,
+        bus,
+    }
+}
+
+fn reset() -> Done
+    ensures { λ r. ⌜ r ≡ resetAs ⌝ }
+{
+    let state = step_calls::reset();
+    Done {
+        number: 0,
+        steps: 0,
+        state,
+        bus: mach_tally::none(),
+    }
+}
+
+// The call of a case, of those on the machine.
+fn called(s: State, ram: &mut [u8], rom: &[u8], tape: &[u8], log: &mut [u8], c: Case) -> Done
+    ensures { λ r. ⌜ Called c s (now (ram .entry)) (now (rom .entry)) (now (tape .entry)) (now (log .entry)) r (now (ram .exit)) (now (log .exit)) ⌝ }
+{
+    let call = c.call;
+    match call {
+        0 => stepped(s, ram, rom, tape, log),
+        1 => ran(s, ram, rom, tape, log, c.budget),
+        2 => interrupted(s, ram, rom, tape, log, c.vector, c.maskable),
+        _ => reset(),
+    }
+}
+
+// The bytes for what a call came to, with the sums of RAM and log after it.
+fn bytes_of(d: Done, ram: &[u8], log: &[u8]) -> [u8; 88]
+    ensures { λ r. ⌜ r ≡ bytesOf d (now (ram .entry)) (now (log .entry)) ⌝ }
+{
+    let state = d.state;
+    let bus = d.bus;
+    let of_ram = case_bytes::sum(ram);
+    let of_log = case_bytes::sum(log);
+    let mut out = [0; 88];
+    case_form::put_call(&mut out, d.number, d.steps, bus, state);
+    case_form::put_sums(&mut out, of_ram, of_log);
+    out
+}
+
+// The bytes that answer such a call.
+pub fn result(
+    s: State,
+    ram: &mut [u8],
+    rom: &[u8],
+    tape: &[u8],
+    log: &mut [u8],
+    c: Case,
+) -> [u8; 88]
+    ensures { λ r. ⌜ Result c s (now (ram .entry)) (now (rom .entry)) (now (tape .entry)) (now (log .entry)) (now (ram .exit)) (now (log .exit)) r ⌝ }
+{
+    let d = called(s, ram, rom, tape, log, c);
+    bytes_of(d, ram, log)
+}
+
+// The bytes that answer a log reading under a gap rule.
+pub fn reading(log: &[u8], at: usize, rule: GapRule) -> [u8; 17]
+    ensures { λ r. ⌜ Reading rule (now (log .entry)) at r ⌝ }
+{
+    let e = log_reader::read_log(log, at, rule);
+    let mut out = [0; 17];
+    case_form::put_entry(&mut out, e);
+    out
+}
+
+// A buffer as a case has it: filled, then patched by the patches of its kind.
+pub fn lay_out(buffer: &mut [u8], fill: u8, kind: u8, patches: &[u8])
+    ensures { λ _. ⌜ now (buffer .exit) ≡ laid (now (buffer .entry)) fill kind (now (patches .entry)) ⌝ }
+{
+    case_bytes::fill(buffer, fill);
+    case_bytes::patch_all(buffer, kind, patches, patches.len() / 6);
+}

@@ -1,0 +1,19 @@
+use Rattle.case_form.specs.Form.{withPlaces}
+use borrow.Author.Needs.{needs}
+use Rattle.case_form.proofs.put_places.Statement.{statement}
+use Rattle.case_form.proofs.put_places.Tie as tie
+
+returns : tie.Need-returns
+unfolding withPlaces
+returns c = cc
+
+pub put-places-spec : {M : Type 1} → statement M
+put-places-spec =
+    tie.close
+    (tie.spec
+    (λ c. search needs)
+    (λ c κs. search needs)
+    (λ c. search needs)
+    (λ c κs. search needs)
+    (λ c κs. search needs)
+    returns)

@@ -1,4 +1,0 @@
-// listlog, in the gate on a gap at the ceiling and a cut record behind it.
-fn main() {
-    listrun::run();
-}

@@ -1,0 +1,10 @@
+use Rattle.mach_memory.proofs.Laws.{loads}
+use borrow.Author.Needs.{needs}
+use Rattle.mach_memory.proofs.load.Statement.{statement}
+use Rattle.mach_memory.proofs.load.Tie as tie
+
+returns : tie.Need-returns
+returns c = search (loads, needs)
+
+pub load-spec : {M : Type 1} → statement M
+load-spec = tie.close (tie.spec (λ c κs. search needs) (λ c κs. search needs) returns)

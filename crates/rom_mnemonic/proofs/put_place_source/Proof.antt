@@ -1,0 +1,11 @@
+use Rattle.rom_mnemonic.proofs.Laws.{two-added}
+use borrow.Author.Needs.{needs}
+use Rattle.rom_mnemonic.proofs.put_place_source.Statement.{statement}
+use Rattle.rom_mnemonic.proofs.put_place_source.Tie as tie
+
+returns : tie.Need-returns
+returns c = search (two-added, needs)
+
+pub put-place-source-spec : {M : Type 1} → statement M
+put-place-source-spec =
+    tie.close (tie.spec (λ c κs. search needs) (λ c κs. search needs) returns)
