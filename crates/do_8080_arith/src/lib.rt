@@ -1,5 +1,4 @@
 // Arithmetic of the 8080 mode, and LDAX and STAX.
-use mach_registers::DS0;
 use mach_registers::PSW;
 use sheet::Bus;
 use sheet::Operation;
@@ -17,6 +16,8 @@ ghost use Rattle.sheet.specs.CardArithmetic as tree;
 ghost use Rattle.sheet.specs.CardPoint as through;
 ghost use Rattle.sheet.specs.Contract.{OnFile};
 ghost use Rattle.mach_tally.specs.Lent.{Does};
+
+const DS0: usize = 11;
 
 // CMP drops the difference.
 fn conclude(file: &mut [u16; 14], op: Operation, v: u16)

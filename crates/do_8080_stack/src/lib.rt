@@ -3,7 +3,6 @@ use mach_memory::Loaded;
 use mach_registers::AW;
 use mach_registers::BP;
 use mach_registers::BW;
-use mach_registers::DS0;
 use mach_registers::PSW;
 use sheet::Bus;
 use sheet::cards::CardStack;
@@ -11,6 +10,8 @@ ghost use mathlib.Core.Path.{_≡_};
 ghost use Prim.Native.Nat.{ℕ};
 ghost use Rattle.sheet.specs.CardStack as tree;
 ghost use Rattle.mach_tally.specs.Lent.{Does, Takes};
+
+const DS0: usize = 11;
 
 pub fn push(file: &mut [u16; 14], ram: &mut [u8], rom: &[u8], v: u16) -> Bus
     ensures { λ r. ⌜ Does (tree.cardPush v) file ram rom r 2 ⌝ }
