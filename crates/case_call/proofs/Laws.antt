@@ -26,6 +26,7 @@ module _ (c : Case) (s : State) (ram rom tape log : List ℕ) (d : Done) (ram′
         step = λ z. (n, p);
         run = λ z. absurd (omega arith);
         interrupt = λ z. absurd (omega arith);
+        quick = λ z. absurd (omega arith);
         reset = λ z. absurd (omega arith);
       }
 
@@ -35,6 +36,17 @@ module _ (c : Case) (s : State) (ram rom tape log : List ℕ) (d : Done) (ram′
         step = λ z. absurd (omega arith);
         run = λ z. p;
         interrupt = λ z. absurd (omega arith);
+        quick = λ z. absurd (omega arith);
+        reset = λ z. absurd (omega arith);
+      }
+
+  pub by-quick : c .call ≡ 5 → Runs (c .budget) s ram rom tape log (d .number) (d .state) ram′ log′ (d .steps) (d .bus) → Called c s ram rom tape log d ram′ log′
+  by-quick e p =
+      record {
+        step = λ z. absurd (omega arith);
+        run = λ z. absurd (omega arith);
+        interrupt = λ z. absurd (omega arith);
+        quick = λ z. p;
         reset = λ z. absurd (omega arith);
       }
 
@@ -45,16 +57,18 @@ module _ (c : Case) (s : State) (ram rom tape log : List ℕ) (d : Done) (ram′
         step = λ z. absurd (omega arith);
         run = λ z. absurd (omega arith);
         interrupt = λ z. (n, refl, p);
+        quick = λ z. absurd (omega arith);
         reset = λ z. absurd (omega arith);
       }
 
 module _ (c : Case) (s : State) (ram rom tape log : List ℕ) (d : Done) where
-  pub by-reset : (c .call ≡ 0 → ⊥) → (c .call ≡ 1 → ⊥) → (c .call ≡ 2 → ⊥) → d ≡ resetAs → Called c s ram rom tape log d ram log
-  by-reset a b e p =
+  pub by-reset : (c .call ≡ 0 → ⊥) → (c .call ≡ 1 → ⊥) → (c .call ≡ 2 → ⊥) → (c .call ≡ 5 → ⊥) → d ≡ resetAs → Called c s ram rom tape log d ram log
+  by-reset a b e q p =
       record {
         step = λ z. absurd (a z);
         run = λ z. absurd (b z);
         interrupt = λ z. absurd (e z);
+        quick = λ z. absurd (q z);
         reset = λ z. (p, refl, refl);
       }
 

@@ -26,11 +26,12 @@ stepsOf number = pick (eqb number 0) 1 0
 abbrev pub resetAs : Done
 resetAs = record { number = 0; steps = 0; state = definition.reset; bus = nothing }
 
--- the call of a case, by its number: 0 step, 1 run, 2 interrupt, 3 reset
+-- the call of a case, by its number: 0 step, 1 run, 2 interrupt, 3 reset, 5 the quicker run
 pub record Called (c : Case) (s : State) (ram rom tape log : List ℕ) (d : Done) (ram′ log′ : List ℕ) : Type 0 where
   pub step : c .call ≡ 0 → (d .steps ≡ stepsOf (d .number)) × Steps s ram rom tape log (d .number) (d .state) ram′ log′ (d .bus)
   pub run : c .call ≡ 1 → Runs (c .budget) s ram rom tape log (d .number) (d .state) ram′ log′ (d .steps) (d .bus)
   pub interrupt : c .call ≡ 2 → (d .steps ≡ 0) × (log′ ≡ log) × Interrupts (c .vector) (c .maskable) s ram rom tape log (d .number) (d .state) ram′ (d .bus)
+  pub quick : c .call ≡ 5 → Runs (c .budget) s ram rom tape log (d .number) (d .state) ram′ log′ (d .steps) (d .bus)
   pub reset : c .call ≡ 3 → (d ≡ resetAs) × (ram′ ≡ ram) × (log′ ≡ log)
 
 -- the bytes for what a call came to, with the sums of RAM and log after it

@@ -9,7 +9,7 @@ ghost use Rattle.engine.specs.Steps.{Steps};
 ghost use Rattle.engine.specs.Runs.{Runs};
 ghost use Rattle.case_call.specs.Called.{stepsOf, resetAs, bytesOf, laid, Called, Result, Reading};
 
-// What the four calls on the machine come to.
+// What the calls on the machine come to.
 struct Done {
     pub number: u8,
     pub steps: u32,
@@ -43,6 +43,20 @@ fn ran(s: State, ram: &mut [u8], rom: &[u8], tape: &[u8], log: &mut [u8], budget
     ensures { λ r. ⌜ Runs budget s (now (ram .entry)) (now (rom .entry)) (now (tape .entry)) (now (log .entry)) (r .number) (r .state) (now (ram .exit)) (now (log .exit)) (r .steps) (r .bus) ⌝ }
 {
     let a = engine::run(s, ram, rom, tape, log, budget);
+    let state = a.state;
+    let bus = a.bus;
+    Done {
+        number: a.number,
+        steps: a.steps as u32,
+        state,
+        bus,
+    }
+}
+
+fn quickly(s: State, ram: &mut [u8], rom: &[u8], tape: &[u8], log: &mut [u8], budget: u16) -> Done
+    ensures { λ r. ⌜ Runs budget s (now (ram .entry)) (now (rom .entry)) (now (tape .entry)) (now (log .entry)) (r .number) (r .state) (now (ram .exit)) (now (log .exit)) (r .steps) (r .bus) ⌝ }
+{
+    let a = quick_run::run(s, ram, rom, tape, log, budget);
     let state = a.state;
     let bus = a.bus;
     Done {
@@ -97,6 +111,7 @@ fn called(s: State, ram: &mut [u8], rom: &[u8], tape: &[u8], log: &mut [u8], c: 
         0 => stepped(s, ram, rom, tape, log),
         1 => ran(s, ram, rom, tape, log, c.budget),
         2 => interrupted(s, ram, rom, tape, log, c.vector, c.maskable),
+        5 => quickly(s, ram, rom, tape, log, c.budget),
         _ => reset(),
     }
 }

@@ -20,7 +20,7 @@ use Rattle.case_form.specs.declared.Case.{Case}
 -- flags marked undefined, whose requests are not built, and in the last six bytes
 unfoldable pub goodHeader : List ℕ → Bool
 goodHeader header =
-    leb (getD header 0 0) 4 && (leb (getD header 1 0) 1 && (leb (getD header 2 0) 1 && (leb (getD header 61 0) 1 && (eqb (getD header 62 0) 0 && (leb (getD header 63 0) 1 && (eqb (wordAt header 64) 0 && (eqb (wordAt header 66) 0 && eqb (doubleAt header 68) 0)))))))
+    leb (getD header 0 0) 5 && (leb (getD header 1 0) 1 && (leb (getD header 2 0) 1 && (leb (getD header 61 0) 1 && (eqb (getD header 62 0) 0 && (leb (getD header 63 0) 1 && (eqb (wordAt header 64) 0 && (eqb (wordAt header 66) 0 && eqb (doubleAt header 68) 0)))))))
 
 -- where the register file has the stream's register i: eight general ones, PS, SS, DS0, DS1, PC, PSW
 unfoldable pub placeOf : ℕ → ℕ

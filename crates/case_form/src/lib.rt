@@ -22,7 +22,7 @@ pub fn good_header(header: &[u8; 72]) -> bool
     let undefined = word_at(header, 64);
     let low = word_at(header, 66);
     let high = double_at(header, 68);
-    (header[0] <= 4)
+    (header[0] <= 5)
         & ((header[1] <= 1)
             & ((header[2] <= 1)
                 & ((header[61] <= 1)

@@ -38,7 +38,7 @@ fn continued(
     ensures { λ r. ⌜ Continued n plan s (now (ram .entry)) (now (rom .entry)) (now (tape .entry)) (now (log .entry)) r (now (ram .exit)) (now (log .exit)) ⌝ }
 {
     let state = s.state;
-    let r = engine::run(
+    let r = quick_run::run(
         state,
         ram,
         rom,

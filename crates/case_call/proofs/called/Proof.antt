@@ -1,4 +1,4 @@
-use Rattle.case_call.proofs.Laws.{by-interrupt, by-reset, by-run, by-step}
+use Rattle.case_call.proofs.Laws.{by-interrupt, by-quick, by-reset, by-run, by-step}
 use borrow.Author.Needs.{needs}
 use Rattle.case_call.proofs.called.Statement.{statement}
 use Rattle.case_call.proofs.called.Tie as tie
@@ -13,12 +13,16 @@ returns-3 : tie.Need-returns-3
 returns-3 c = search (by-interrupt, needs)
 
 returns-4 : tie.Need-returns-4
-returns-4 c = search (by-reset, needs)
+returns-4 c = search (by-quick, needs)
+
+returns-5 : tie.Need-returns-5
+returns-5 c = search (by-reset, needs)
 
 pub called-spec : {M : Type 1} → statement M
 called-spec =
     tie.close
     (tie.spec
+    (λ c κs. search needs)
     (λ c κs. search needs)
     (λ c κs. search needs)
     (λ c κs. search needs)
@@ -32,4 +36,7 @@ called-spec =
     (λ c. search needs)
     (λ c. search needs)
     returns-3
-    returns-4)
+    (λ c. search needs)
+    (λ c. search needs)
+    returns-4
+    returns-5)
