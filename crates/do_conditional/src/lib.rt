@@ -24,7 +24,7 @@ fn asked(file: &[u16; 14], n: u8) -> bool
 }
 
 // The odd conditions are the even ones denied.
-fn condition(file: &[u16; 14], n: u8) -> bool
+pub fn condition(file: &[u16; 14], n: u8) -> bool
     ensures { λ r. ⌜ OnFile Bool (tree.condition n) (now (file .entry)) r (now (file .entry)) ⌝ }
 {
     let b = asked(file, n);
