@@ -47,7 +47,7 @@ fn missed(landed: bool) -> u32
 }
 
 // A byte, or a word with its low byte first.
-fn read(word: bool, ram: &[u8], rom: &[u8], base: u16, offset: u16) -> u16
+pub fn read(word: bool, ram: &[u8], rom: &[u8], base: u16, offset: u16) -> u16
     ensures { λ r. ⌜ (r ≡ readMem word (now (ram .entry)) (now (rom .entry)) base offset) × (r < modOf word) ⌝ }
 {
     let low = read_byte(ram, rom, base, offset) as u16;
@@ -59,7 +59,7 @@ fn read(word: bool, ram: &[u8], rom: &[u8], base: u16, offset: u16) -> u16
 }
 
 // How many of its bytes were dropped.
-fn write(word: bool, ram: &mut [u8], base: u16, offset: u16, v: u16) -> u32
+pub fn write(word: bool, ram: &mut [u8], base: u16, offset: u16, v: u16) -> u32
     ensures { λ r. ⌜ Writes word (now (ram .entry)) base offset v (now (ram .exit)) r ⌝ }
 {
     let low = missed(write_byte(ram, base, offset, (v % 256) as u8));
