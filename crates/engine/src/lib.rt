@@ -16,7 +16,7 @@ ghost use Rattle.engine.specs.Steps.{refusedAt, advancedBy, answerOf, Ca
 ghost use Rattle.engine.specs.Runs.{Runs};
 
 // What comes of a step: done, or the number of its refusal, after which nothing has changed; the marks, the places, the bus.
-struct Advanced {
+pub struct Advanced {
     pub done: bool,
     pub number: u8,
     pub marks: Marks,

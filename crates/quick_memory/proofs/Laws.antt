@@ -13,7 +13,7 @@ use Rattle.sheet.specs.declared.Flagged.{Flagged}
 use Rattle.sheet.specs.declared.Operation.{Operation}
 use Rattle.sheet.specs.declared.Place.the-variants.{Register, Memory}
 use Rattle.sheet.specs.declared.Source.{Source}
-use Rattle.sheet.specs.declared.Source.the-variants.{Held, Immediate}
+use Rattle.sheet.specs.declared.Source.the-variants.{Held}
 use Rattle.sheet.specs.declared.Spot.{Spot}
 use Rattle.sheet.specs.declared.Spot.the-variants.{InRegister, InMemory}
 use Rattle.sheet.specs.Width.{pick, modOf, add16, sub16}
@@ -38,7 +38,7 @@ use Rattle.calc_arith.proofs.OperateLaws.{operate-ends}
 use Rattle.mach_memory.specs.Accesses.{Writes, Loads, Stores}
 use Rattle.mach_memory.proofs.Laws.{loads, stores}
 use Rattle.mach_stack.proofs.Laws.{push-is, pop-is}
-use Rattle.quick_place.specs.Packed.{opOf, wordOf, rmOf, regOf, dispOf, immOf, addressOf}
+use Rattle.quick_place.specs.Packed.{opOf, wordOf, rmOf, regOf, dispOf, addressOf}
 use Rattle.mach_tally.specs.Sums.{Free, Costs, Joins}
 use Rattle.quick_tally.specs.Packed.{busAt}
 use Rattle.mach_tally.proofs.Bounds.{within-access, within-memory}
@@ -58,10 +58,6 @@ fetched w a f ram rom g o v n e q h = memory-free _ (located a f g o e q) (h .at
 held : (w : Bool) (m v : ℕ) (f : List ℕ) → v ≡ readReg w (fileOf f) m → OnFile ℕ (sourceValue w (Held (Register m))) f v f
 unfolding sourceValue valueAt locate fetch
 held w m v f e = file-seq _ file-pure (file-reg w m e)
-
-given : (w : Bool) (v : ℕ) (f : List ℕ) → OnFile ℕ (sourceValue w (Immediate v)) f v f
-unfolding sourceValue
-given w v f = file-pure
 
 -- ---- MOV
 
@@ -88,9 +84,6 @@ module _ (r v : ℕ) (f ram ram′ rom : List ℕ) (n : ℕ) (x : Moved r v f ra
   pub mov-mr-is : (w : Bool) (m : ℕ) → w ≡ wordOf r → m ≡ regOf r → v ≡ readReg w (fileOf f) m
       → OnMemory Unit (mov (wordOf r) (Memory (addressOf r)) (Held (Register (regOf r)))) f ram rom tt f ram′ (busAt n) 6
   mov-mr-is w m wide reg e = rw (← reg) (x .from (Held (Register m)) (rw (← wide) (held w m v f e)))
-
-  pub mov-mi-is : v ≡ immOf r → OnMemory Unit (mov (wordOf r) (Memory (addressOf r)) (Immediate (immOf r))) f ram rom tt f ram′ (busAt n) 6
-  mov-mi-is e = rw (← e) (x .from (Immediate v) (given (wordOf r) v f))
 
 -- ---- operations
 
@@ -139,9 +132,6 @@ module _ (r v : ℕ) (f h ram ram′ rom : List ℕ) (n : ℕ) (x : Operated r v
   pub alu-mr-is : (w : Bool) (m : ℕ) → w ≡ wordOf r → m ≡ regOf r → v ≡ readReg w (fileOf f) m
       → OnMemory Unit (two (operationAt (opOf r)) (wordOf r) (Memory (addressOf r)) (Held (Register (regOf r)))) f ram rom tt h ram′ (busAt n) 6
   alu-mr-is w m wide reg e = rw (← reg) (x .from (Held (Register m)) (rw (← wide) (held w m v f e)))
-
-  pub alu-mi-is : v ≡ immOf r → OnMemory Unit (two (operationAt (opOf r)) (wordOf r) (Memory (addressOf r)) (Immediate (immOf r))) f ram rom tt h ram′ (busAt n) 6
-  alu-mi-is e = rw (← e) (x .from (Immediate v) (given (wordOf r) v f))
 
 -- what is kept of the operation with a number
 concludes-at : (k : ℕ) (w : Bool) (s : Spot) (v : ℕ) → k < 8 → conclude (operationAt k) w s v ≡ pick (eqb k 7) (pure tt) (deposit w s v)

@@ -4,7 +4,7 @@ use mach_registers::PSW;
 use mach_registers::SP;
 use mach_registers::SS;
 ghost use Rattle.sheet.specs.declared.Place.the-variants.{Register, Memory};
-ghost use Rattle.sheet.specs.declared.Source.the-variants.{Held, Immediate};
+ghost use Rattle.sheet.specs.declared.Source.the-variants.{Held};
 ghost use Rattle.sheet.specs.declared.Spot.the-variants.{InMemory};
 ghost use Rattle.sheet.specs.FirstByte.{operationAt};
 ghost use Rattle.sheet.specs.Arithmetic.{two, conclude};
@@ -14,7 +14,7 @@ ghost use Rattle.sheet.specs.Branch.{callNear, ret as retOf};
 ghost use Rattle.mach_tally.specs.Lent.{Does, Takes, Fills};
 ghost use Rattle.mach_memory.specs.Accesses.{Stores};
 ghost use Rattle.quick_tally.specs.Packed.{busAt};
-ghost use Rattle.quick_place.specs.Packed.{opOf, wordOf, rmOf, regOf, dispOf, immOf, addressOf};
+ghost use Rattle.quick_place.specs.Packed.{opOf, wordOf, rmOf, regOf, dispOf, addressOf};
 ghost use Rattle.quick_memory.specs.Settled.{Moved, Operated};
 
 fn store(word: bool, ram: &mut [u8], g: u16, o: u16, v: u16) -> u64
@@ -53,13 +53,6 @@ pub fn mov_mr(file: &[u16; 14], ram: &mut [u8], rom: &[u8], r: u64) -> u64
 {
     let v = mach_registers::reg(quick_do::word_of(r), file, quick_do::reg_of(r));
     mov_to(file, ram, rom, r, v)
-}
-
-// MOV mem,imm.
-pub fn mov_mi(file: &[u16; 14], ram: &mut [u8], rom: &[u8], r: u64) -> u64
-    ensures { λ n. ⌜ Fills Unit (mov (wordOf r) (Memory (addressOf r)) (Immediate (immOf r))) file ram rom tt (busAt n) 6 ⌝ }
-{
-    mov_to(file, ram, rom, r, (r / 281474976710656) as u16)
 }
 
 // ---- operations
@@ -115,13 +108,6 @@ pub fn alu_mr(file: &mut [u16; 14], ram: &mut [u8], rom: &[u8], r: u64) -> u64
 {
     let b = mach_registers::reg(quick_do::word_of(r), file, quick_do::reg_of(r));
     alu_at(file, ram, rom, r, b)
-}
-
-// An operation on memory and an immediate.
-pub fn alu_mi(file: &mut [u16; 14], ram: &mut [u8], rom: &[u8], r: u64) -> u64
-    ensures { λ n. ⌜ Does (two (operationAt (opOf r)) (wordOf r) (Memory (addressOf r)) (Immediate (immOf r))) file ram rom (busAt n) 6 ⌝ }
-{
-    alu_at(file, ram, rom, r, (r / 281474976710656) as u16)
 }
 
 // ---- the stack and branches

@@ -17,7 +17,8 @@ use Rattle.sheet.specs.Transfer.{transfer}
 use Rattle.sheet.specs.Stack.{pushPlace, stack}
 use Rattle.sheet.specs.Branch.{branch, conditional}
 use Rattle.sheet.specs.Control.{control}
-use Rattle.sheet.specs.Execute.{calculate, computing, moving, operation, execute}
+use Rattle.sheet.specs.Arithmetic.{calculate}
+use Rattle.sheet.specs.Execute.{computing, moving, operation, execute}
 use Rattle.sheet.specs.Contract.{OnFile, OnMemory}
 use Rattle.sheet.proofs.Lifted.{file-pure, file-seq, file-registers, file-set, memory-free, memory-last, memory-at-most, on-memory}
 use Rattle.quick_tally.specs.Packed.{busAt}
