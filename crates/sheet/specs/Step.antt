@@ -1,6 +1,6 @@
 -- One step, an interrupt call, and reset; what a step and an interrupt report. Calls are given worlds that are `lendable`, and
--- vectors up to `vectorTop` (Lendable). What follows from it: an instruction has at most nine bytes (01:23: `nine-bytes` in
--- romlist/proofs), a step makes at most 1,028 bus cycles (01:66: `at-most-1028` in theorems/proofs). What a service is (01:29): `Service` in theorems/specs/Repeat.
+-- vectors up to `vectorTop` (Lendable). Stated elsewhere: at most nine bytes make an instruction (01:23: `nine-bytes` in rom_form/proofs),
+-- a step makes at most 1,028 bus cycles (01:66: `at-most-1028` in theorems/proofs), what a service is (01:29: `Service` in theorems/specs/Repeat).
 -- 01:15, 23-29, 35-48; 02 f
 use Prim.Native.Nat.{ℕ, _+_}
 use mathlib.Core.Bool.{Bool, true, false, not, _&&_}

@@ -33,7 +33,7 @@ pub data Called (w : World) : List FinishedStep → World → Type 0 where
   then-interrupt : {l : List FinishedStep} {u v : World} {vector number : ℕ} {maskable : Bool} {n : Bus} → Called w l u → InterruptCall vector maskable u number v n
       → Called w l v
 
--- whatever `logreader` answers from a place of a log on, under the rule that the engine writes by: these records, and then the end
+-- whatever `log_reader` answers from a place of a log on, under the rule that the engine writes by: these records, and then the end
 pub data ReadBack (log : List ℕ) : ℕ → List Row → Type 0 where
   all-read : {at : ℕ} → ((e : Entry) → Answers rule log at e → e ≡ End) → ReadBack log at []
   read-then : {at next : ℕ} {r : Row} {rs : List Row} → ((e : Entry) → Answers rule log at e → e ≡ Record (r .gap) (r .key) (r .value) next)
