@@ -20,13 +20,6 @@ make_rom() {
 # the calls of a case stream (version 2) that run a ROM
 old_run=1 quicker_run=5
 
-# takes_call CALL WORD..: whether the program that these words start answers a case of this call
-takes_call() {
-    local call=$1
-    shift
-    [ "$(bench/stream "$call" /dev/null /dev/null 1 | "$@" 2>/dev/null | wc -c)" -eq 88 ]
-}
-
 # in_result OFFSET BYTES: a number of the result on standard input
 in_result() {
     od -An -v -j "$1" -N "$2" -t "u$2" | tr -d ' '
