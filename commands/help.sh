@@ -35,9 +35,8 @@ v30 pack FOLDER        makes a folder with all that v30 needs, for a machine wit
 v30 help               this
 
 -o FILE: log, rom, image and tape write there instead of printing. A file that is written replaces the old one when it is whole.
-A ROM has 1 to 1048576 bytes and ends at FFFFFh; RAM begins at 0. A tape has at most 1048576 bytes, a log 65536, a schedule of
-interrupts 1048576 bytes and 32768 calls. STEP counts finished steps: 0 calls before the first one. Lines of a schedule that end
-in 'every N' call again each N steps, up to the limit of steps.
+A ROM has 1 to 1048576 bytes and ends at FFFFFh; RAM begins at 0. A tape has at most 1048576 bytes, a log 65536, a schedule 1048576
+and 32768 calls. STEP counts finished steps: 0 calls before the first one. 'every N' calls again each N steps, up to the limit.
 
 Exit status: 0 the machine halted, all steps are done or the address is reached, or what was asked for is made; 1 a file
 cannot be used; 2 odd words or numbers; 3 the machine stopped for another reason, or a tape, a log, an image or lines have a fault.
