@@ -24,7 +24,7 @@ use Rattle.sheet.proofs.Lifted.{file-pure, file-seq, file-registers, file-set, 
 use Rattle.quick_tally.specs.Packed.{busAt}
 use Rattle.quick_tally.proofs.Laws.{packed-none}
 use Rattle.quick_place.specs.Packed.{kindOf, sizeOf}
-use Rattle.quick_reading.specs.Readings.{readings, instrOf}
+use Rattle.quick_reading.specs.Readings.{atPort, readings, instrOf}
 use Rattle.quick_perform.specs.Trees.{trees}
 
 -- ---- instructions and their trees, one by one
@@ -46,14 +46,14 @@ tree-at (more e d) (suc k) = tree-at d k
 
 -- ---- the arms
 
-module _ (r k start : ℕ) (f g ram rom : List ℕ) (known : kindOf r ≡ k) where
+module _ (r k start : ℕ) (f g ram rom : List ℕ) (known : kindOf r ≡ k) (inside : atPort r ≡ false) where
   pub on-file : OnFile Unit (getD (trees r) k (pure tt)) f tt g → OnMemory Bool (operation (instrOf r) start) f ram rom false g ram (busAt 0) 6
   unfolding instrOf untrapped
-  on-file h = rw (known, tree-at (each r start) k, packed-none .is) (on-memory ram rom 6 (file-seq _ h file-pure))
+  on-file h = rw (inside, known, tree-at (each r start) k, packed-none .is) (on-memory ram rom 6 (file-seq _ h file-pure))
 
   pub in-memory : (ram′ : List ℕ) (n : ℕ) → OnMemory Unit (getD (trees r) k (pure tt)) f ram rom tt g ram′ (busAt n) 6 → OnMemory Bool (operation (instrOf r) start) f ram rom false g ram′ (busAt n) 6
   unfolding instrOf untrapped
-  in-memory ram′ n h = rw (known, tree-at (each r start) k) (memory-last _ h file-pure)
+  in-memory ram′ n h = rw (inside, known, tree-at (each r start) k) (memory-last _ h file-pure)
 
 -- no other kind does anything
 four-on : (k m : ℕ) → m ≤ k → (k ≡ m → ⊥) → (k ≡ m + 1 → ⊥) → (k ≡ m + 2 → ⊥) → (k ≡ m + 3 → ⊥) → m + 4 ≤ k
@@ -71,8 +71,8 @@ no-other r zero a b c d e f g h i j l m = refl
 no-other r (suc k) a b c d e f g h i j l m = past (trees r) (suc k) (pure tt) (four-on (suc k) 9 (four-on (suc k) 5 (four-on (suc k) 1 (omega arith) a b c d) e f g h) i j l m)
 
 pub kind-else : (r start : ℕ) (f ram rom : List ℕ) → (kindOf r ≡ 1 → ⊥) → (kindOf r ≡ 2 → ⊥) → (kindOf r ≡ 3 → ⊥) → (kindOf r ≡ 4 → ⊥) → (kindOf r ≡ 5 → ⊥) → (kindOf r ≡ 6 → ⊥) → (kindOf r ≡ 7 → ⊥) → (kindOf r ≡ 8 → ⊥)
-    → (kindOf r ≡ 9 → ⊥) → (kindOf r ≡ 10 → ⊥) → (kindOf r ≡ 11 → ⊥) → (kindOf r ≡ 12 → ⊥) → OnMemory Bool (operation (instrOf r) start) f ram rom false f ram (busAt 0) 6
-kind-else r start f ram rom a b c d e f′ g h i j l m = on-file r (kindOf r) start f f ram rom refl (rw (no-other r (kindOf r) a b c d e f′ g h i j l m) file-pure)
+    → (kindOf r ≡ 9 → ⊥) → (kindOf r ≡ 10 → ⊥) → (kindOf r ≡ 11 → ⊥) → (kindOf r ≡ 12 → ⊥) → atPort r ≡ false → OnMemory Bool (operation (instrOf r) start) f ram rom false f ram (busAt 0) 6
+kind-else r start f ram rom a b c d e f′ g h i j l m z = on-file r (kindOf r) start f f ram rom refl z (rw (no-other r (kindOf r) a b c d e f′ g h i j l m) file-pure)
 
 pub performs : (r start next n : ℕ) (f g ram ram′ rom : List ℕ) → start ≡ getD f PC 0 → next ≡ add16 start (sizeOf r) → OnMemory Bool (operation (instrOf r) start) (set f PC next) ram rom false g ram′ (busAt n) 6
     → OnMemory Bool (execute (instrOf r) (sizeOf r)) f ram rom false g ram′ (busAt n) 1020

@@ -1,14 +1,16 @@
 // A reading done, by its kind.
 use mach_registers::PC;
+ghost use mathlib.Core.Path.{_≡_};
 ghost use mathlib.Core.Bool.{Bool, false};
 ghost use Rattle.sheet.specs.Execute.{operation, execute};
 ghost use Rattle.mach_tally.specs.Lent.{Gives};
 ghost use Rattle.quick_tally.specs.Packed.{busAt};
 ghost use Rattle.quick_place.specs.Packed.{sizeOf};
-ghost use Rattle.quick_reading.specs.Readings.{instrOf};
+ghost use Rattle.quick_reading.specs.Readings.{atPort, instrOf};
 
 // PC stands on the next instruction.
 fn operate(file: &mut [u16; 14], ram: &mut [u8], rom: &[u8], r: u64, start: u16) -> u64
+    requires { ⌜ atPort r ≡ false ⌝ }
     ensures { λ n. ⌜ Gives Bool (operation (instrOf r) start) file ram rom false (busAt n) 6 ⌝ }
 {
     match r % 256 {
@@ -42,6 +44,7 @@ fn operate(file: &mut [u16; 14], ram: &mut [u8], rom: &[u8], r: u64, start: u16)
 
 // A reading done, with PC moved past it.
 pub fn perform(file: &mut [u16; 14], ram: &mut [u8], rom: &[u8], r: u64) -> u64
+    requires { ⌜ atPort r ≡ false ⌝ }
     ensures { λ n. ⌜ Gives Bool (execute (instrOf r) (sizeOf r)) file ram rom false (busAt n) 1020 ⌝ }
 {
     let start = file[PC];

@@ -1,5 +1,5 @@
 -- What each return of the code comes to, over plain values.
-use Prim.Native.Nat.{ℕ, zero, suc, _+_, _*_, _/_, _%_, _≤_, _<_}
+use Prim.Native.Nat.{ℕ, zero, suc, _+_, _-_, _*_, _/_, _%_, _≤_, _<_}
 use mathlib.Core.Path.{_≡_, refl, sym, ap, _∙_}
 use mathlib.Core.Bool.{Bool, true, false}
 use mathlib.Core.List.{List}
@@ -11,6 +11,7 @@ use lib.ListN.{getD, set, length, length-set}
 use lib.Seq.{getD-set-same, getD-set-other}
 use borrow.Author.Tests.{ne-eqb, eq-eqb, le-leb, lt-ltb}
 use Rattle.sheet.specs.declared.Instr.{Instr}
+use Rattle.sheet.specs.declared.Instr.the-variants.{Ports, Blocks}
 use Rattle.sheet.specs.declared.Place.{Place}
 use Rattle.sheet.specs.declared.Place.the-variants.{Register, Memory}
 use Rattle.sheet.specs.declared.Source.the-variants.{Held, Immediate}
@@ -19,11 +20,15 @@ use Rattle.sheet.specs.declared.Transfer.the-variants.{Mov}
 use Rattle.sheet.specs.declared.Stack.the-variants.{Push, Pop}
 use Rattle.sheet.specs.declared.Branch.the-variants.{CallNear, Ret}
 use Rattle.sheet.specs.declared.Conditional.the-variants.{If}
+use Rattle.sheet.specs.declared.Io.the-variants.{In, Out}
+use Rattle.sheet.specs.declared.Port.the-variants.{InDw, Numbered}
+use Rattle.sheet.specs.declared.Primitive.the-variants.{Inm, Outm}
+use Rattle.sheet.specs.declared.Repeat.the-variants.{WhileZ}
 use Rattle.sheet.specs.declared.Prefixes.{Prefixes}
 use Rattle.sheet.specs.Groups.{Transfers, Calculates, Stacks, Branches, Tests}
 use Rattle.sheet.specs.Width.{odd, extend}
 use Rattle.sheet.specs.Reading.{Reading, got, need, no as refused, Read, known, unknown, scan, byte, word, immediate}
-use Rattle.sheet.specs.Encoding.{unprefixed, withPrefix, Prefix, prefixOf, segmentPrefix, W, lookUp}
+use Rattle.sheet.specs.Encoding.{unprefixed, withPrefix, Prefix, prefixOf, segmentPrefix, repeatPrefix, W, lookUp}
 use Rattle.sheet.specs.FirstByte.{instruction, prefixed, afterPrefix, operationAt, firstBytes}
 use Rattle.sheet.specs.Contract.{Reads}
 use Rattle.sheet.proofs.ReadingLaws.{reads-byte, reads-seq, reads-got}
@@ -32,7 +37,7 @@ use Rattle.code_answer.specs.declared.Decoded.the-variants.{Known}
 use Rattle.code_answer.specs.Answer.{Takes, answerOf, Decodes, Names}
 use Rattle.code_answer.proofs.DecodesLaws.{decodes-seq, decodes-to, known-reads}
 use Rattle.code_answer.proofs.CodeLaws.{at-row, at-one}
-use Rattle.code_answer.proofs.FollowLaws.{decodes-known, with-word, with-short}
+use Rattle.code_answer.proofs.FollowLaws.{decodes-known, with-byte, with-word, with-short}
 use Rattle.code_operand.specs.Operands.{Operands}
 use Rattle.code_operand.proofs.Laws.{operands-register, operands-memory}
 use Rattle.code_operand.proofs.OperandsLaws.{with-place}
@@ -41,7 +46,7 @@ use Rattle.code_00.proofs.Laws.{at-places, to-register, to-place}
 use Rattle.code_90.proofs.Laws.{load-register}
 use Rattle.quick_place.specs.Packed.{byteOf, modRegMem, kindOf, sizeOf, rmOf, regOf, opOf, condOf, segOf, wordOf, dispOf, immOf, addressAt, addressOf, prefixesOf, Addresses}
 use Rattle.quick_place.proofs.Laws.{byte-0, byte-1, word-1, short-1}
-use Rattle.quick_reading.specs.Readings.{readings, instrOf, First, other, first, Means, general, quick, Remembers}
+use Rattle.quick_reading.specs.Readings.{readings, portAt, streamAt, portReadings, instrOf, First, other, first, Means, general, quick, Remembers}
 
 -- ---- bytes that are no prefixes
 
@@ -127,6 +132,18 @@ module _ {r z m g o s b d i : ℕ} where
   is-12 : Fields r 12 z m g o s b d i → instrOf r ≡ Branches Ret
   unfolding instrOf readings
   is-12 f = rw (f .kind)
+
+  is-13 : Fields r 13 z m g o s b d i → instrOf r ≡ Ports (In (eqb b 1) (portAt m d))
+  unfolding instrOf portReadings
+  is-13 f = rw (f .kind, f .wide, f .rm, f .disp)
+
+  is-14 : Fields r 14 z m g o s b d i → instrOf r ≡ Ports (Out (eqb b 1) (portAt m d))
+  unfolding instrOf portReadings
+  is-14 f = rw (f .kind, f .wide, f .rm, f .disp)
+
+  is-15 : Fields r 15 z m g o s b d i → o < 8 → instrOf r ≡ Blocks (streamAt o) (eqb b 1) s WhileZ
+  unfolding instrOf portReadings
+  is-15 f h = let q : o % 8 ≡ o = omega arith in rw (f .kind, f .op, f .wide, f .seg, q)
 
 -- ---- a register and a place
 
@@ -285,6 +302,47 @@ module _ (s w r : ℕ) where
       first (rw (f .size) (lit≤ tt)) (high-code (w % 256) (omega arith) (omega arith))
       (from-c0 (prefixesOf s) (omega arith) (at-one 0xc3 refl refl h (decodes-known (rw (is-12 f, f .size)))))
 
+-- ---- ports
+
+numbered : (n : ℕ) → portAt 8 n ≡ Numbered n
+unfolding portAt
+numbered n = refl
+
+in-dw : portAt 0 0 ≡ InDw
+unfolding portAt
+in-dw = refl
+
+module _ (s w r : ℕ) where
+  numbered-fields : (k : ℕ) → k < 16 → r ≡ k + 33280 + (268435456 * (w % 2) + 4294967296 * (w / 256 % 256)) → Fields r k 2 8 0 0 0 (w % 256 % 2) (w / 256 % 256) 0
+  numbered-fields k h e = fields r k 2 8 0 0 0 (w % 256 % 2) (w / 256 % 256) 0 (omega arith) (lit≤ tt) (lit≤ tt) (lit≤ tt) (lit≤ tt) (lit≤ tt) (below-2 _) (omega arith) (omega arith)
+
+  dw-fields : (k : ℕ) → k < 16 → r ≡ k + 256 + 268435456 * (w % 2) → Fields r k 1 0 0 0 0 (w % 256 % 2) 0 0
+  dw-fields k h e = fields r k 1 0 0 0 0 (w % 256 % 2) 0 0 (omega arith) (lit≤ tt) (lit≤ tt) (lit≤ tt) (lit≤ tt) (lit≤ tt) (below-2 _) (lit≤ tt) (omega arith)
+
+  pub in-byte-is : 0xe4 ≤ w % 256 → w % 256 < 0xe6 → r ≡ 33293 + (268435456 * (w % 2) + 4294967296 * (w / 256 % 256)) → First s w r
+  in-byte-is h k e =
+      let f = numbered-fields 13 (lit≤ tt) e in
+      first (rw (f .size) (lit≤ tt)) (high-code (w % 256) (omega arith) (omega arith))
+      (from-c0 (prefixesOf s) (omega arith) (at-row 0xe4 refl h k (with-byte _ (reads-byte (byte-1 w)) (rw (is-13 f, f .size, numbered (w / 256 % 256))))))
+
+  pub out-byte-is : 0xe6 ≤ w % 256 → w % 256 < 0xe8 → r ≡ 33294 + (268435456 * (w % 2) + 4294967296 * (w / 256 % 256)) → First s w r
+  out-byte-is h k e =
+      let f = numbered-fields 14 (lit≤ tt) e in
+      first (rw (f .size) (lit≤ tt)) (high-code (w % 256) (omega arith) (omega arith))
+      (from-c0 (prefixesOf s) (omega arith) (at-row 0xe6 refl h k (with-byte _ (reads-byte (byte-1 w)) (rw (is-14 f, f .size, numbered (w / 256 % 256))))))
+
+  pub in-dw-is : 0xec ≤ w % 256 → w % 256 < 0xee → r ≡ 269 + 268435456 * (w % 2) → First s w r
+  in-dw-is h k e =
+      let f = dw-fields 13 (lit≤ tt) e in
+      first (rw (f .size) (lit≤ tt)) (high-code (w % 256) (omega arith) (omega arith))
+      (from-c0 (prefixesOf s) (omega arith) (at-row 0xec refl h k (decodes-known (rw (is-13 f, f .size, in-dw)))))
+
+  pub out-dw-is : 0xee ≤ w % 256 → w % 256 < 0xf0 → r ≡ 270 + 268435456 * (w % 2) → First s w r
+  out-dw-is h k e =
+      let f = dw-fields 14 (lit≤ tt) e in
+      first (rw (f .size) (lit≤ tt)) (high-code (w % 256) (omega arith) (omega arith))
+      (from-c0 (prefixesOf s) (omega arith) (at-row 0xee refl h k (decodes-known (rw (is-14 f, f .size, in-dw)))))
+
 -- ---- the first byte, with a segment prefix before it and without
 
 pub size-small : {s w r : ℕ} → First s w r → sizeOf r ≤ 6
@@ -362,7 +420,7 @@ same-rest : (r : ℕ) → sizeOf r ≤ 6 → (r + 256) / 4096 ≡ r / 4096
 same-rest r h = by-sixteens (r + 256) ∙ (rw (next-page r) (next-sixteen (r / 256) h) ∙ sym (by-sixteens r))
 
 same-instr : (r : ℕ) → sizeOf r ≤ 6 → instrOf (r + 256) ≡ instrOf r
-unfolding instrOf readings
+unfolding instrOf readings portReadings
 same-instr r h =
     rw (same-kind r, over-reg (r + 256), over-op (r + 256), over-seg (r + 256), over-word (r + 256), over-disp (r + 256), over-imm (r + 256), same-rest r h, over-reg r, over-op r, over-seg r, over-word r, over-disp r, over-imm r)
 
@@ -391,6 +449,41 @@ after-is s w v r x h k u (first l n y) z q =
     let d : Decodes instruction (byteOf w) 0 (Known (instrOf r) (sizeOf r + 1)) =
     one-prefix (segmentPrefix s) w _ (segment-code s (w % 256) h k) (prefixed-as _ (prefixesOf s) w _ (named s h) (then-none (prefixesOf s) w _ n′ (begins-later s w r y′))) in
     rw q (quick (rw (one-longer r l) (omega arith)) (rw (same-instr r l, one-longer r l) d))
+
+-- ---- a repeat prefix before INM and OUTM
+
+repeat-code : (b : ℕ) → b ≡ 0xf3 → prefixOf b ≡ some (repeatPrefix WhileZ)
+unfolding prefixOf
+repeat-code b e = rw e
+
+stream-in : streamAt 0 ≡ Inm
+unfolding streamAt
+stream-in = refl
+
+stream-out : streamAt 1 ≡ Outm
+unfolding streamAt
+stream-out = refl
+
+abbrev whileZ : Prefixes
+whileZ = withPrefix unprefixed (repeatPrefix WhileZ)
+
+module _ (w r : ℕ) (p : w % 256 ≡ 0xf3) (h : modRegMem w / 4 ≡ 27) (e : r ≡ 50332175 + 1048576 * (modRegMem w / 2 % 2) + 268435456 * (modRegMem w % 2)) where
+  stream-fields : Fields r 15 2 0 0 (modRegMem w / 2 % 2) 3 (modRegMem w % 2) 0 0
+  stream-fields = fields r 15 2 0 0 (modRegMem w / 2 % 2) 3 (modRegMem w % 2) 0 0 (lit≤ tt) (lit≤ tt) (lit≤ tt) (lit≤ tt) (omega arith) (lit≤ tt) (below-2 _) (lit≤ tt) (omega arith)
+
+  stream-named : (o : ℕ) → modRegMem w / 2 % 2 ≡ o → Names (firstBytes whileZ) (modRegMem w) (byteOf w) 2 (Known (Blocks (streamAt o) (W (modRegMem w)) 3 WhileZ) 2) → Means w r
+  stream-named o k y =
+      let f = stream-fields in
+      let i : instrOf r ≡ Blocks (streamAt o) (W (modRegMem w)) 3 WhileZ = is-15 f (omega arith) ∙ rw k in
+      quick (rw (f .size) (lit≤ tt))
+      (rw (i, f .size) (one-prefix (repeatPrefix WhileZ) w _ (repeat-code (w % 256) p) (then-none whileZ w _ (high-code (modRegMem w) (omega arith) (omega arith)) (y .is))))
+
+  pub stream-is : Means w r
+  stream-is = go (ℕ-discrete (modRegMem w / 2 % 2) 0)
+    where
+      go : Dec (modRegMem w / 2 % 2 ≡ 0) → Means w r
+      go (yes z) = stream-named 0 z (rw stream-in (from-40 whileZ (omega arith) (omega arith) (at-row 0x6c refl (omega arith) (omega arith) (decodes-known refl))))
+      go (no z) = stream-named 1 (omega (arith, z)) (rw stream-out (from-40 whileZ (omega arith) (omega arith) (at-row 0x6e refl (omega (arith, z)) (omega arith) (decodes-known refl))))
 
 -- ---- the memo
 

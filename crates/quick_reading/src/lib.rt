@@ -1,7 +1,7 @@
 // Code bytes as one number, readings in one number, and the memo of readings.
 ghost use mathlib.Core.Path.{_≡_};
 ghost use Prim.Native.Nat.{_+_, _*_, _%_, _≤_, _<_};
-ghost use Rattle.quick_reading.specs.Readings.{First, Means, Remembers};
+ghost use Rattle.quick_reading.specs.Readings.{atPort, First, Means, Remembers};
 
 // 00 to 3F, the first four of each eight: an operation on a register and a place.
 fn alu(w: u64, s: u64) -> u64
@@ -87,6 +87,43 @@ fn ret(w: u64, s: u64) -> u64
     268
 }
 
+// E4 to E7: IN acc,imm8, OUT imm8,acc.
+fn port_numbered(w: u64, s: u64) -> u64
+    requires { ⌜ (0xe4 ≤ w % 256) × (w % 256 < 0xe8) ⌝ }
+    ensures { λ r. ⌜ First s w r ⌝ }
+{
+    let rest = 268435456 * (w % 2) + 4294967296 * (w / 256 % 256);
+    if w % 256 < 0xe6 {
+        return 33293 + rest;
+    }
+    33294 + rest
+}
+
+// EC to EF: IN acc,DW, OUT DW,acc.
+fn port_in_dw(w: u64, s: u64) -> u64
+    requires { ⌜ (0xec ≤ w % 256) × (w % 256 < 0xf0) ⌝ }
+    ensures { λ r. ⌜ First s w r ⌝ }
+{
+    if w % 256 < 0xee {
+        return 269 + 268435456 * (w % 2);
+    }
+    270 + 268435456 * (w % 2)
+}
+
+// E8 to EF.
+fn from_e8(w: u64, s: u64) -> u64
+    requires { ⌜ (0xe8 ≤ w % 256) × (w % 256 < 0xf0) ⌝ }
+    ensures { λ r. ⌜ First s w r ⌝ }
+{
+    if w % 256 == 0xe8 {
+        return call(w, s);
+    }
+    if w % 256 < 0xec {
+        return 0;
+    }
+    port_in_dw(w, s)
+}
+
 // By the first byte, or 0.
 fn first(w: u64, s: u64) -> u64
     ensures { λ r. ⌜ First s w r ⌝ }
@@ -106,7 +143,8 @@ fn first(w: u64, s: u64) -> u64
         17 => if b < 0x8c { mov(w, s) } else { 0 },
         23 => mov_word(w, s),
         24 => if b == 0xc3 { ret(w, s) } else { 0 },
-        29 => if b == 0xe8 { call(w, s) } else { 0 },
+        28 => if b < 0xe4 { 0 } else { port_numbered(w, s) },
+        29 => from_e8(w, s),
         _ => 0,
     }
 }
@@ -123,6 +161,18 @@ fn after(w: u64, s: u64) -> u64
     r + 256
 }
 
+// F3, then 6C to 6F: INM and OUTM, repeated.
+fn repeated(w: u64) -> u64
+    requires { ⌜ w % 256 ≡ 0xf3 ⌝ }
+    ensures { λ r. ⌜ Means w r ⌝ }
+{
+    let b = w / 256 % 256;
+    if b / 4 == 27 {
+        return 50332175 + 1048576 * (b / 2 % 2) + 268435456 * (b % 2);
+    }
+    0
+}
+
 pub fn read(w: u64) -> u64
     ensures { λ r. ⌜ Means w r ⌝ }
 {
@@ -131,8 +181,16 @@ pub fn read(w: u64) -> u64
         0x2e => after(w, 1),
         0x36 => after(w, 2),
         0x3e => after(w, 3),
+        0xf3 => repeated(w),
         _ => first(w, 4),
     }
+}
+
+// Whether a reading is at a port.
+pub fn at_port(r: u64) -> bool
+    ensures { λ x. ⌜ x ≡ atPort r ⌝ }
+{
+    (13 <= r % 256) & (r % 256 <= 15)
 }
 
 fn slot(pc: u16) -> usize

@@ -13,11 +13,11 @@ returns-8 c = other refl
 returns-11 : tie.Need-returns-11
 returns-11 c = other refl
 
-returns-13 : tie.Need-returns-13
-returns-13 c = other refl
+returns-12 : tie.Need-returns-12
+returns-12 c = other refl
 
-returns-14 : tie.Need-returns-14
-returns-14 c = other refl
+returns-15 : tie.Need-returns-15
+returns-15 c = other refl
 
 pub first-spec : {M : Type 1} → statement M
 first-spec =
@@ -26,6 +26,7 @@ first-spec =
     (λ c κs. search needs)
     (λ c. search needs)
     returns-2
+    (λ c κs. search needs)
     (λ c κs. search needs)
     (λ c κs. search needs)
     (λ c κs. search needs)
@@ -43,6 +44,7 @@ first-spec =
     (λ c. search needs)
     (λ c. search needs)
     returns-11
+    returns-12
     (λ c. search needs)
-    returns-13
-    returns-14)
+    (λ c. search needs)
+    returns-15)

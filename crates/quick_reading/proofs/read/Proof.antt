@@ -3,8 +3,8 @@ use borrow.Author.Needs.{needs}
 use Rattle.quick_reading.proofs.read.Statement.{statement}
 use Rattle.quick_reading.proofs.read.Tie as tie
 
-returns-5 : tie.Need-returns-5
-returns-5 c = search (plain, needs)
+returns-6 : tie.Need-returns-6
+returns-6 c = search (plain, needs)
 
 pub read-spec : {M : Type 1} → statement M
 read-spec =
@@ -15,8 +15,10 @@ read-spec =
     (λ c κs. search needs)
     (λ c κs. search needs)
     (λ c κs. search needs)
+    (λ c κs. search needs)
     (λ c. search needs)
     (λ c. search needs)
     (λ c. search needs)
     (λ c. search needs)
-    returns-5)
+    (λ c. search needs)
+    returns-6)
