@@ -31,7 +31,7 @@ use Rattle.do_port.proofs.Laws.{port-in-dw, port-numbered, output-is, input-don
 use Rattle.quick_tally.specs.Packed.{busAt}
 use Rattle.quick_tally.proofs.Laws.{fits-above}
 use Rattle.quick_place.specs.Packed.{rmOf, dispOf}
-use Rattle.quick_reading.specs.Readings.{portAt}
+use Rattle.quick_pack.specs.Readings.{portAt}
 use Rattle.quick_stand.specs.Stand.{Lent, Holds}
 use Rattle.quick_stand.proofs.Laws.{keeps}
 use Rattle.quick_port.specs.Reached.{countedAt, numberOf, Stands, Lodges, Sends, Draws, Reaches}

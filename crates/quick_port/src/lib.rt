@@ -11,7 +11,7 @@ ghost use Rattle.sheet.specs.Log.{rule, recordBytes};
 ghost use Rattle.sheet.specs.Ports as tree;
 ghost use Rattle.sheet.specs.Contract.{OnFile};
 ghost use Rattle.quick_place.specs.Packed.{rmOf, wordOf, dispOf};
-ghost use Rattle.quick_reading.specs.Readings.{portAt};
+ghost use Rattle.quick_pack.specs.Readings.{portAt};
 ghost use Rattle.quick_stand.specs.Stand.{Lent};
 ghost use Rattle.quick_port.specs.Reached.{Lodges, Sends, Draws, Reaches};
 
@@ -134,7 +134,7 @@ fn port_of(file: &[u16; 14], r: u64) -> u16
     file[DW]
 }
 
-// Kind 13: IN.
+// Kind 48: IN.
 pub fn input(
     file: &mut [u16; 14],
     ram: &[u8],
@@ -158,7 +158,7 @@ pub fn input(
     256 + quick_tally::of_access(word, port)
 }
 
-// Kind 14: OUT.
+// Kind 49: OUT.
 pub fn output(
     file: &[u16; 14],
     ram: &[u8],

@@ -41,7 +41,8 @@ use Rattle.engine.proofs.Laws.{advances-known}
 use Rattle.quick_tally.specs.Packed.{busAt, Packs}
 use Rattle.quick_tally.proofs.Laws.{fits-above}
 use Rattle.quick_place.specs.Packed.{kindOf, sizeOf}
-use Rattle.quick_reading.specs.Readings.{readings, atPort, portReadings, instrOf, Means, general, quick}
+use Rattle.quick_pack.specs.Readings.{readings, further, rest, portReadings, atPort, groups, instrOf}
+use Rattle.quick_reading.specs.Readings.{Means, general, quick}
 use Rattle.quick_window.specs.Spelled.{Spells}
 use Rattle.quick_window.proofs.Laws.{code-decodes}
 use Rattle.quick_stand.specs.Stand.{progressAt, marksAt, Lent, Holds}
@@ -85,6 +86,14 @@ each : (r : ℕ) → Plain (readings r)
 unfolding readings loadsSegment movesIn movIn popIn
 each r = more refl (more refl (more refl (more refl (more refl (more refl (more refl (more refl (more refl (more refl (more refl (more refl (more refl none))))))))))))
 
+each-further : (r : ℕ) → Plain (further r)
+unfolding further loadsSegment movesIn movIn
+each-further r = more refl (more refl (more refl (more refl (more refl (more refl (more refl (more refl (more refl (more refl (more refl (more refl (more refl (more refl none)))))))))))))
+
+each-rest : (r : ℕ) → Plain (rest r)
+unfolding rest loadsSegment
+each-rest r = more refl (more refl (more refl (more refl (more refl none))))
+
 each-port : (r : ℕ) → Plain (portReadings r)
 unfolding portReadings loadsSegment
 each-port r = more refl (more refl (more refl none))
@@ -96,13 +105,17 @@ plain-at none (suc k) = refl
 plain-at (more e d) zero = e
 plain-at (more e d) (suc k) = plain-at d k
 
-either : (b : Bool) (i j : Instr) → loadsSegment i ≡ false → loadsSegment j ≡ false → loadsSegment (pick b i j) ≡ false
-either true i j x y = x
-either false i j x y = y
+in-group : (r k : ℕ) → Plain (getD (groups r) k [])
+in-group r zero = each r
+in-group r (suc zero) = each-further r
+in-group r (suc (suc zero)) = each-rest r
+in-group r (suc (suc (suc zero))) = each-port r
+in-group r (suc (suc (suc (suc zero)))) = none
+in-group r (suc (suc (suc (suc (suc k))))) = none
 
 loads-none : (r : ℕ) → loadsSegment (instrOf r) ≡ false
 unfolding instrOf
-loads-none r = either (atPort r) _ _ (plain-at (each-port r) (kindOf r - 13)) (plain-at (each r) (kindOf r))
+loads-none r = plain-at (in-group r (kindOf r / 16)) (kindOf r % 16)
 
 module _ (i : Instr) (size : ℕ) (f ram rom tape log : List ℕ) (m : Marks) (q : Progress) (awake : m .halted ≡ false) (plain : loadsSegment i ≡ false) (untraced : flagOf (getD f PSW 0) BRK ≡ false)
     (d : Decodes instruction (codeByte ram rom (getD f PS 0) (getD f PC 0)) 0 (Known i size)) where

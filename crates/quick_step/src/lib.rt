@@ -6,7 +6,8 @@ ghost use mathlib.Core.Path.{_≡_};
 ghost use mathlib.Core.Bool.{true, false};
 ghost use Rattle.sheet.specs.World.{marksOf};
 ghost use Rattle.step_one.specs.Proceeds.{begunAt};
-ghost use Rattle.quick_reading.specs.Readings.{atPort, Remembers};
+ghost use Rattle.quick_pack.specs.Readings.{atPort};
+ghost use Rattle.quick_reading.specs.Readings.{Remembers};
 ghost use Rattle.quick_stand.specs.Stand.{progressAt, Lent, Holds};
 ghost use Rattle.quick_step.specs.Ready.{Ready};
 ghost use Rattle.quick_step.specs.Turns.{Turns};
@@ -101,7 +102,7 @@ pub fn turn(
 {
     let r = next(file, stand, memo, ram, rom);
     if r != 0 {
-        if quick_reading::at_port(r) {
+        if quick_pack::at_port(r) {
             return reach(file, stand, ram, rom, tape, log, r);
         }
         let n = quick_perform::perform(file, ram, rom, r);

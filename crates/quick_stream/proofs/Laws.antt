@@ -34,7 +34,7 @@ use Rattle.do_stream.proofs.Laws.{inm-done, inm-stop, outm-done, outm-stop, one
 use Rattle.quick_tally.specs.Packed.{busAt, Packs}
 use Rattle.quick_tally.proofs.Laws.{packed-none, both-fit, fits-above}
 use Rattle.quick_place.specs.Packed.{kindOf, rmOf, opOf, segOf, wordOf, dispOf}
-use Rattle.quick_reading.specs.Readings.{portAt, streamAt, atPort, portReadings, instrOf}
+use Rattle.quick_pack.specs.Readings.{portAt, streamAt, atPort, portReadings, instrOf}
 use Rattle.quick_stand.specs.Stand.{Lent}
 use Rattle.quick_stand.proofs.Laws.{counted}
 use Rattle.quick_port.specs.Reached.{countedAt, numberOf, costOf, Stands, Sends, Draws, Reaches}
@@ -137,23 +137,23 @@ both-true true true e = (refl, refl)
 both-true true false e = absurd (true≢false (sym e))
 both-true false b e = absurd (true≢false (sym e))
 
--- 13, 14 or 15
-kinds : (r : ℕ) → atPort r ≡ true → (13 ≤ kindOf r) × (kindOf r ≤ 15)
-kinds r e = let (a, b) = both-true (leb 13 (kindOf r)) (leb (kindOf r) 15) e in (leb-true 13 (kindOf r) a, leb-true (kindOf r) 15 b)
+-- 48, 49 or 50
+kinds : (r : ℕ) → atPort r ≡ true → (48 ≤ kindOf r) × (kindOf r ≤ 50)
+kinds r e = let (a, b) = both-true (leb 48 (kindOf r)) (leb (kindOf r) 50) e in (leb-true 48 (kindOf r) a, leb-true (kindOf r) 50 b)
 
-last-kind : (r : ℕ) → atPort r ≡ true → (kindOf r ≡ 13 → ⊥) → (kindOf r ≡ 14 → ⊥) → kindOf r ≡ 15
+last-kind : (r : ℕ) → atPort r ≡ true → (kindOf r ≡ 48 → ⊥) → (kindOf r ≡ 49 → ⊥) → kindOf r ≡ 50
 last-kind r e a b = let (l, h) = kinds r e in omega (arith, a, b)
 
 module _ (r start : ℕ) (f g ram ram′ rom tape log log′ p p′ : List ℕ) (count x : ℕ) where
-  pub at-13 : kindOf r ≡ 13 → Reaches (ports (In (wordOf r) (portAt (rmOf r) (dispOf r)))) f ram rom tape log p count x g ram′ log′ p′ → Reaches (portTree r start) f ram rom tape log p count x g ram′ log′ p′
+  pub at-48 : kindOf r ≡ 48 → Reaches (ports (In (wordOf r) (portAt (rmOf r) (dispOf r)))) f ram rom tape log p count x g ram′ log′ p′ → Reaches (portTree r start) f ram rom tape log p count x g ram′ log′ p′
   unfolding portTree portTrees
-  at-13 e d = rw e d
+  at-48 e d = rw e d
 
-  pub at-14 : kindOf r ≡ 14 → Reaches (ports (Out (wordOf r) (portAt (rmOf r) (dispOf r)))) f ram rom tape log p count x g ram′ log′ p′ → Reaches (portTree r start) f ram rom tape log p count x g ram′ log′ p′
+  pub at-49 : kindOf r ≡ 49 → Reaches (ports (Out (wordOf r) (portAt (rmOf r) (dispOf r)))) f ram rom tape log p count x g ram′ log′ p′ → Reaches (portTree r start) f ram rom tape log p count x g ram′ log′ p′
   unfolding portTree portTrees
-  at-14 e d = rw e d
+  at-49 e d = rw e d
 
-  pub at-rest : atPort r ≡ true → (kindOf r ≡ 13 → ⊥) → (kindOf r ≡ 14 → ⊥) → Reaches (block (streamAt (opOf r)) (wordOf r) (segOf r) WhileZ start) f ram rom tape log p count x g ram′ log′ p′
+  pub at-rest : atPort r ≡ true → (kindOf r ≡ 48 → ⊥) → (kindOf r ≡ 49 → ⊥) → Reaches (block (streamAt (opOf r)) (wordOf r) (segOf r) WhileZ start) f ram rom tape log p count x g ram′ log′ p′
       → Reaches (portTree r start) f ram rom tape log p count x g ram′ log′ p′
   unfolding portTree portTrees
   at-rest k a b d = rw (last-kind r k a b) d
@@ -161,9 +161,9 @@ module _ (r start : ℕ) (f g ram ram′ rom tape log log′ p p′ : List ℕ) 
 -- and its instruction
 pub port-does : (r start : ℕ) → atPort r ≡ true → operation (instrOf r) start ≡ untrapped (portTree r start)
 unfolding instrOf portReadings portTree portTrees operation
-port-does r start e = go (ℕ-discrete (kindOf r) 13) (ℕ-discrete (kindOf r) 14)
+port-does r start e = go (ℕ-discrete (kindOf r) 48) (ℕ-discrete (kindOf r) 49)
   where
-    go : Dec (kindOf r ≡ 13) → Dec (kindOf r ≡ 14) → operation (instrOf r) start ≡ untrapped (portTree r start)
+    go : Dec (kindOf r ≡ 48) → Dec (kindOf r ≡ 49) → operation (instrOf r) start ≡ untrapped (portTree r start)
     go (yes a) d = rw a
     go (no a) (yes b) = rw b
     go (no a) (no b) = rw (last-kind r e a b)

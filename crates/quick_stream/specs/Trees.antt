@@ -1,5 +1,5 @@
 -- What the instruction of a reading at a port does.
-use Prim.Native.Nat.{ℕ, _-_}
+use Prim.Native.Nat.{ℕ, _%_}
 use mathlib.Core.List.{List, [], _∷_}
 use lib.ListN.{getD}
 use Rattle.sheet.specs.declared.Io.the-variants.{In, Out}
@@ -8,7 +8,7 @@ use Rattle.sheet.specs.Act.{Act, pure}
 use Rattle.sheet.specs.Block.{block}
 use Rattle.sheet.specs.Ports.{ports}
 use Rattle.quick_place.specs.Packed.{kindOf, rmOf, opOf, segOf, wordOf, dispOf}
-use Rattle.quick_reading.specs.Readings.{portAt, streamAt}
+use Rattle.quick_pack.specs.Readings.{portAt, streamAt}
 
 -- in the order of `portReadings`
 unfoldable pub portTrees : ℕ → ℕ → List (Act Unit)
@@ -19,4 +19,4 @@ portTrees r start =
     ∷ []
 
 unfoldable pub portTree : ℕ → ℕ → Act Unit
-portTree r start = getD (portTrees r start) (kindOf r - 13) (pure tt)
+portTree r start = getD (portTrees r start) (kindOf r % 16) (pure tt)

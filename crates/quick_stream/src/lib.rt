@@ -9,7 +9,7 @@ ghost use Rattle.sheet.specs.declared.Primitive.the-variants as primitives;
 ghost use Rattle.sheet.specs.declared.Repeat.the-variants as repeats;
 ghost use Rattle.sheet.specs.Block as tree;
 ghost use Rattle.quick_place.specs.Packed.{opOf, segOf, wordOf};
-ghost use Rattle.quick_reading.specs.Readings.{atPort, streamAt};
+ghost use Rattle.quick_pack.specs.Readings.{atPort, streamAt};
 ghost use Rattle.quick_stand.specs.Stand.{Lent};
 ghost use Rattle.quick_port.specs.Reached.{Reaches};
 ghost use Rattle.quick_stream.specs.Trees.{portTree};
@@ -106,7 +106,7 @@ fn outm_element(
     x
 }
 
-// Kind 15. With CW = 0 only the step is counted.
+// Kind 50. With CW = 0 only the step is counted.
 fn stream(
     file: &mut [u16; 14],
     ram: &mut [u8],
@@ -148,8 +148,8 @@ pub fn access(
     ensures { λ x. ⌜ Reaches (portTree r start) (now (file .entry)) (now (ram .entry)) (now (rom .entry)) (now (tape .entry)) (now (log .entry)) (now (stand .entry)) count x (now (file .exit)) (now (ram .exit)) (now (log .exit)) (now (stand .exit)) ⌝ }
 {
     match r % 256 {
-        13 => quick_port::input(file, ram, rom, tape, log, stand, count, r),
-        14 => quick_port::output(file, ram, rom, tape, log, stand, count, r),
+        48 => quick_port::input(file, ram, rom, tape, log, stand, count, r),
+        49 => quick_port::output(file, ram, rom, tape, log, stand, count, r),
         _ => stream(file, ram, rom, tape, log, stand, count, r, start),
     }
 }
