@@ -90,8 +90,8 @@ unfolding further loadsSegment movesIn movIn
 each-further r = more refl (more refl (more refl (more refl (more refl (more refl (more refl (more refl (more refl (more refl (more refl (more refl (more refl (more refl none)))))))))))))
 
 each-rest : (r : ℕ) → Plain (rest r)
-unfolding rest loadsSegment
-each-rest r = more refl (more refl (more refl (more refl (more refl none))))
+unfolding rest loadsSegment movesIn movIn
+each-rest r = more refl (more refl (more refl (more refl (more refl (more refl (more refl (more refl (more refl (more refl (more refl (more refl (more refl (more refl none)))))))))))))
 
 plain-at : {is : List Instr} → Plain is → (k : ℕ) → loadsSegment (getD is k (Controls Nop)) ≡ false
 unfolding loadsSegment
