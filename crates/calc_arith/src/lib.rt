@@ -115,7 +115,7 @@ fn invert(word: bool, a: u16, psw: u16) -> Flagged
 {
     Flagged {
         value: wrap(word, 131071 - a as u32),
-        psw: calc_psw::restore(psw),
+        psw: calc_psw::restore(psw, psw),
     }
 }
 
