@@ -120,15 +120,23 @@ pub marks-crossing : (c : Crossing) {f f′ ram rom : List ℕ} {m m′ : Marks}
     → OnMarks Unit (crossing c) f ram rom m tt f′ ram m′ nothing 0
 marks-crossing c e = record { most = lit≤ tt; fair = lit≤ tt; at = λ q tape log. rw (← e q) (ends-crossing c) }
 
-module _ {A B : Type 0} {p : Act A} (k : A → Act B) {f g h : List ℕ} {a : A} {b : B} {m : Marks} where
-  -- after code that is not lent them
-  pub memory-marks : {ram rom ram′ ram″ : List ℕ} {m′ : Marks} {n c : Bus} {t u : ℕ} → OnMemory A p f ram rom a g ram′ n t → OnMarks B (k a) g ram′ rom m b h ram″ m′ c u
-      → OnMarks B (p >>= k) f ram rom m b h ram″ m′ (n ⊕ c) (t + u)
-  memory-marks x y = record { most = add-le-add (x .most) (y .most); fair = (let a = x .fair in let b = y .fair in omega arith); at = λ q tape log. seq k (x .at (stateOf f m q) tape log) (y .at q tape log) }
+-- code that leaves every mark needs none
+pub off-marks : {A : Type 0} {p : Act A} {f ram rom f′ ram′ : List ℕ} {a : A} {n : Bus} {top : ℕ} → n .cycles ≤ top → n .dropped ≤ 2 * n .cycles
+    → ((m : Marks) → OnMarks A p f ram rom m a f′ ram′ m n top) → OnMemory A p f ram rom a f′ ram′ n top
+off-marks most fair h = record { most = most; fair = fair; at = λ s tape log. h (s .marks) .at (s .progress) tape log }
 
-  pub file-marks : {ram rom ram′ : List ℕ} {m′ : Marks} {n : Bus} {t : ℕ} → OnFile A p f a g → OnMarks B (k a) g ram rom m b h ram′ m′ n t
-      → OnMarks B (p >>= k) f ram rom m b h ram′ m′ n t
-  file-marks {ram = ram} {rom = rom} x y = record { most = y .most; fair = y .fair; at = λ q tape log. seq-free k (x .at (stateOf f m q) ram rom tape log) (y .at q tape log) }
+module _ {A B : Type 0} {p : Act A} (k : A → Act B) {f g h ram rom : List ℕ} {a : A} {b : B} {m m′ : Marks} where
+  pub marks-seq : {ram′ ram″ : List ℕ} {m″ : Marks} {n c : Bus} {t u : ℕ} → OnMarks A p f ram rom m a g ram′ m′ n t → OnMarks B (k a) g ram′ rom m′ b h ram″ m″ c u
+      → OnMarks B (p >>= k) f ram rom m b h ram″ m″ (n ⊕ c) (t + u)
+  marks-seq x y = record { most = add-le-add (x .most) (y .most); fair = (let a = x .fair in let b = y .fair in omega arith); at = λ q tape log. seq k (x .at q tape log) (y .at q tape log) }
+
+  -- the same where the first, or the rest, makes no access
+  pub marks-free : {ram′ : List ℕ} {m″ : Marks} {n : Bus} {t : ℕ} → OnMarks A p f ram rom m a g ram m′ nothing 0 → OnMarks B (k a) g ram rom m′ b h ram′ m″ n t
+      → OnMarks B (p >>= k) f ram rom m b h ram′ m″ n t
+  marks-free x y = record { most = y .most; fair = y .fair; at = λ q tape log. seq-free k (x .at q tape log) (y .at q tape log) }
+
+  pub marks-last : {ram′ : List ℕ} {n : Bus} {t : ℕ} → OnMarks A p f ram rom m a g ram′ m′ n t → OnFile B (k a) g b h → OnMarks B (p >>= k) f ram rom m b h ram′ m′ n t
+  marks-last {ram′ = ram′} x y = record { most = x .most; fair = x .fair; at = λ q tape log. seq-last k (x .at q tape log) (y .at (stateOf g m′ q) ram′ rom tape log) }
 
 -- ---- a choice that is known
 
