@@ -1,4 +1,4 @@
-// The second bytes after 0F: bits, decimal strings and digits, bit fields.
+// The second bytes after 0F: bits, decimal strings and digits, bit fields, BRKEM.
 use code_answer::Decoded;
 use sheet::Amount;
 use sheet::Bit;
@@ -6,6 +6,7 @@ use sheet::Compute;
 use sheet::Decimal;
 use sheet::Field;
 use sheet::Length;
+use sheet::Mode;
 use sheet::Prefixes;
 ghost use Prim.Native.Nat.{_≤_, _<_};
 ghost use Rattle.sheet.specs.Groups.{Decimals};
@@ -13,7 +14,7 @@ ghost use Rattle.sheet.specs.declared.Decimal.the-variants.{Rol4, Ror4};
 ghost use Rattle.sheet.specs.Width.{pick};
 ghost use Rattle.sheet.specs.Reading.{got};
 ghost use Rattle.sheet.specs.Step.{codeByte};
-ghost use Rattle.sheet.specs.SecondByte.{withPlain, fieldInRegister, fieldGiven, secondBytes};
+ghost use Rattle.sheet.specs.SecondByte.{withPlain, fieldInRegister, fieldGiven, breakForEmulation, secondBytes};
 ghost use Rattle.code_answer.specs.Answer.{Decodes, Names};
 ghost use Rattle.code_0f.specs.Fields.{fieldOf};
 
@@ -121,6 +122,15 @@ fn field(
     code_answer::computes(Compute::Fields(group), next)
 }
 
+// FF: BRKEM.
+fn emulation(ram: &[u8], rom: &[u8], ps: u16, pc: u16, i: u16) -> Decoded
+    requires { ⌜ i ≤ 5 ⌝ }
+    ensures { λ r. ⌜ Decodes breakForEmulation (codeByte (now (ram .entry)) (now (rom .entry)) ps pc) i r ⌝ }
+{
+    let vector = code_bytes::code_byte(ram, rom, ps, pc, i);
+    code_answer::modes(Mode::Brkem { vector: vector }, i + 1)
+}
+
 pub fn codes0f(ram: &[u8], rom: &[u8], ps: u16, pc: u16, p: Prefixes, b: u8, i: u16) -> Decoded
     requires { ⌜ i ≤ 5 ⌝ }
     ensures { λ r. ⌜ Names (secondBytes p) b (codeByte (now (ram .entry)) (now (rom .entry)) ps pc) i r ⌝ }
@@ -140,6 +150,7 @@ pub fn codes0f(ram: &[u8], rom: &[u8], ps: u16, pc: u16, p: Prefixes, b: u8, i: 
         0x28 | 0x2a => return rotated(ram, rom, ps, pc, p, b == 0x28, i),
         0x31 | 0x33 => return field(ram, rom, ps, pc, b == 0x33, false, source, i),
         0x39 | 0x3b => return field(ram, rom, ps, pc, b == 0x3b, true, source, i),
+        0xff => return emulation(ram, rom, ps, pc, i),
         _ => return Decoded::Unknown { number: 3 },
     };
     code_answer::computes(Compute::Decimals(group), i)

@@ -4,6 +4,7 @@ use sheet::Arithmetic;
 use sheet::Branch;
 use sheet::Control;
 use sheet::Convert;
+use sheet::Mode;
 use sheet::Place;
 use sheet::Prefixes;
 use sheet::Primitive;
@@ -43,13 +44,11 @@ fn codes98(ram: &[u8], rom: &[u8], ps: u16, pc: u16, p: Prefixes, b: u8, i: u16)
     if b == 0x9b {
         return Decoded::Unknown { number: 3 };
     }
-    if b < 0x9e {
-        let group = if b == 0x9c {
-            Stack::PushPsw
-        } else {
-            Stack::PopPsw
-        };
-        return code_answer::stacks(group, i);
+    if b == 0x9c {
+        return code_answer::stacks(Stack::PushPsw, i);
+    }
+    if b == 0x9d {
+        return code_answer::modes(Mode::PopPsw, i);
     }
     let group = if b == 0x9e {
         Transfer::PswFromAh

@@ -3,6 +3,7 @@ use code_answer::Decoded;
 use sheet::Amount;
 use sheet::Branch;
 use sheet::Interrupt;
+use sheet::Mode;
 use sheet::Place;
 use sheet::Places;
 use sheet::Prefixes;
@@ -132,10 +133,13 @@ fn codescc(ram: &[u8], rom: &[u8], ps: u16, pc: u16, p: Prefixes, b: u8, i: u16)
         let vector = code_bytes::code_byte(ram, rom, ps, pc, i);
         return code_answer::interrupts(Interrupt::Brk { vector: vector }, i + 1);
     }
-    let group = match b {
-        0xcc => Interrupt::Brk3,
-        0xce => Interrupt::Brkv,
-        _ => Interrupt::Reti,
+    if b == 0xcf {
+        return code_answer::modes(Mode::Reti, i);
+    }
+    let group = if b == 0xcc {
+        Interrupt::Brk3
+    } else {
+        Interrupt::Brkv
     };
     code_answer::interrupts(group, i)
 }

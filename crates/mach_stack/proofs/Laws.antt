@@ -20,7 +20,7 @@ use Rattle.sheet.specs.Handler.{runBy, run, _⊕_}
 use Rattle.sheet.specs.Traps.{push, pop, pushPsw, pushPsPc, jumpFar, save, vectored, entered, trap}
 use Rattle.sheet.specs.Contract.{Seen, stops, ends, exec, OnFile, OnMemory}
 use Rattle.sheet.proofs.Rules.{⊕-assoc}
-use Rattle.sheet.proofs.Lifted.{file-seq, file-pure, file-registers, file-set, file-psw, file-flags, file-native, memory-seq, memory-free, memory-last, on-memory, on-marks, off-marks, marks-seq, marks-free, marks-last}
+use Rattle.sheet.proofs.Lifted.{file-seq, file-pure, file-registers, file-set, file-psw, file-flags, file-native, memory-seq, memory-free, memory-last, on-marks, file-marks, off-marks, marks-seq, marks-free, marks-last}
 use Rattle.calc_word.proofs.WidthLaws.{wrap-id}
 use Rattle.mach_memory.specs.Accesses.{Loads, Stores}
 use Rattle.mach_tally.specs.Sums.{Costs, Joins}
@@ -103,7 +103,7 @@ vectored-is f g ram ram′ rom v x pc ps n m r h k j = rw (j .is) record {
   at = λ change a b c.
       rw (h .sum, ⊕-assoc (h .first) (h .second) m)
       (marks-seq _ {t = 1} {u = 7} (on-marks a (h .offset f))
-      (marks-seq _ {t = 1} {u = 6} (on-marks a (h .base f)) (marks-last _ (k .at change a b c) (file-seq _ (file-set PS ps) (file-set PC pc)))));
+      (marks-seq _ {t = 1} {u = 6} (on-marks a (h .base f)) (marks-last _ (k .at change a b c) (file-marks (file-seq _ (file-set PS ps) (file-set PC pc))))));
 }
 
 -- a second write covers the first, and reads it, but where there is no such place
@@ -121,4 +121,4 @@ entered-is d x e =
 pub trap-is : (f g ram ram′ rom : List ℕ) (v x : ℕ) (n : Bus) → x ≡ inMode true (settled keeps entering (getD f PSW 0)) → Surrounds (λ c. vectored c v) x f ram rom g ram′ n 8
     → OnMemory Unit (trap v) f ram rom tt g ram′ n 8
 unfolding trap entered
-trap-is f g ram ram′ rom v x n e h = off-marks (h .most) (h .fair) (λ a. h .at entered a a (λ d r s q. on-marks a (on-memory r s 0 (entered-is d x (e ∙ rw (← q))))))
+trap-is f g ram ram′ rom v x n e h = off-marks (h .most) (h .fair) (λ a. h .at entered a a (λ d r s q. file-marks (entered-is d x (e ∙ rw (← q)))))

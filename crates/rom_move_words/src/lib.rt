@@ -161,7 +161,6 @@ fn put_stack(line: &mut [u8; 80], at: usize, i: Stack) -> usize
         Stack::PushR => put_word(line, at, b"PUSH R"),
         Stack::Pop { to } => put_place(line, at, b"POP", true, to),
         Stack::PopSegment { seg } => put_one(line, at, b"POP", Operand::Seg(seg)),
-        Stack::PopPsw => put_word(line, at, b"POP PSW"),
         Stack::PopR => put_word(line, at, b"POP R"),
         Stack::Prepare { size, level } => put_two(
             line,

@@ -14,6 +14,7 @@ use sheet::Control;
 use sheet::Instr;
 use sheet::Interrupt;
 use sheet::Io;
+use sheet::Mode;
 use sheet::Multiply;
 use sheet::Place;
 use sheet::Primitive;
@@ -82,7 +83,6 @@ fn put_interrupt(line: &mut [u8; 80], at: usize, i: Interrupt) -> usize
             },
         ),
         Interrupt::Brkv => put_word(line, at, b"BRKV"),
-        Interrupt::Reti => put_word(line, at, b"RETI"),
         Interrupt::Chkind { reg, from } => put_two(
             line,
             at,
@@ -94,6 +94,24 @@ fn put_interrupt(line: &mut [u8; 80], at: usize, i: Interrupt) -> usize
             Operand::Mem {
                 size: Size::Pair,
                 address: from,
+            },
+        ),
+    }
+}
+
+fn put_mode(line: &mut [u8; 80], at: usize, i: Mode) -> usize
+    ensures { λ r. ⌜ Adds (words.modeText i) (now (line .entry)) at r (now (line .exit)) ⌝ }
+{
+    match i {
+        Mode::PopPsw => put_word(line, at, b"POP PSW"),
+        Mode::Reti => put_word(line, at, b"RETI"),
+        Mode::Brkem { vector } => put_one(
+            line,
+            at,
+            b"BRKEM",
+            Operand::Value {
+                word: false,
+                value: vector as u16,
             },
         ),
     }
@@ -215,5 +233,7 @@ pub fn put_instr(line: &mut [u8; 80], at: usize, next: u32, i: Instr) -> usize
         } => put_blocks(line, at, primitive, word, seg, repeat),
         Instr::Ports(i) => put_port(line, at, i),
         Instr::Controls(i) => put_control(line, at, i),
+        Instr::Modes(i) => put_mode(line, at, i),
+        Instr::Cards(i) => put_word(line, at, b"8080"),
     }
 }

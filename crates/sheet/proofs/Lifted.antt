@@ -115,6 +115,9 @@ pub on-marks : {A : Type 0} {p : Act A} {f ram rom f′ ram′ : List ℕ} {a : 
     → OnMarks A p f ram rom m a f′ ram′ m n top
 on-marks {f = f} m h = record { most = h .most; fair = h .fair; at = λ q tape log. h .at (stateOf f m q) tape log }
 
+pub file-marks : {A : Type 0} {p : Act A} {f f′ ram rom : List ℕ} {a : A} {m : Marks} → OnFile A p f a f′ → OnMarks A p f ram rom m a f′ ram m nothing 0
+file-marks {ram = ram} {rom = rom} {m = m} h = on-marks m (on-memory ram rom 0 h)
+
 -- a crossing: the registers and marks that it leaves
 pub marks-crossing : (c : Crossing) {f f′ ram rom : List ℕ} {m m′ : Marks} → ((q : Progress) → crossed c (stateOf f m q) ≡ stateOf f′ m′ q)
     → OnMarks Unit (crossing c) f ram rom m tt f′ ram m′ nothing 0
@@ -135,8 +138,9 @@ module _ {A B : Type 0} {p : Act A} (k : A → Act B) {f g h ram rom : List ℕ}
       → OnMarks B (p >>= k) f ram rom m b h ram′ m″ n t
   marks-free x y = record { most = y .most; fair = y .fair; at = λ q tape log. seq-free k (x .at q tape log) (y .at q tape log) }
 
-  pub marks-last : {ram′ : List ℕ} {n : Bus} {t : ℕ} → OnMarks A p f ram rom m a g ram′ m′ n t → OnFile B (k a) g b h → OnMarks B (p >>= k) f ram rom m b h ram′ m′ n t
-  marks-last {ram′ = ram′} x y = record { most = x .most; fair = x .fair; at = λ q tape log. seq-last k (x .at q tape log) (y .at (stateOf g m′ q) ram′ rom tape log) }
+  pub marks-last : {ram′ : List ℕ} {m″ : Marks} {n : Bus} {t : ℕ} → OnMarks A p f ram rom m a g ram′ m′ n t → OnMarks B (k a) g ram′ rom m′ b h ram′ m″ nothing 0
+      → OnMarks B (p >>= k) f ram rom m b h ram′ m″ n t
+  marks-last x y = record { most = x .most; fair = x .fair; at = λ q tape log. seq-last k (x .at q tape log) (y .at q tape log) }
 
 -- ---- a choice that is known
 

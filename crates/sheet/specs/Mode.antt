@@ -1,38 +1,47 @@
 -- What may write MD: POP PSW, RETI and BRKEM; in the 8080 mode CALLN and RETEM.
 -- 001:550, 883-943; 000:1264, 1316-1317, 1356-1357; CARDS 63-64; 02 m
 use Prim.Native.Nat.{ℕ}
-use mathlib.Core.Bool.{Bool}
 use Rattle.sheet.specs.declared.Mode.{Mode}
 use Rattle.sheet.specs.declared.Mode.the-variants.{PopPsw, Reti, Brkem}
 use Rattle.sheet.specs.declared.cards.CardMode.{CardMode}
 use Rattle.sheet.specs.declared.cards.CardMode.the-variants.{Calln, Retem}
-use Rattle.sheet.specs.Psw.{nativeOf, Crossing, toNative, toCards, back, stored}
+use Rattle.sheet.specs.Psw.{nativeOf, toNative, toCards, back, stored}
 use Rattle.sheet.specs.Registers.{PS, PC}
-use Rattle.sheet.specs.Act.{Act, _>>=_, _>>_, _≔_, restore, crossing}
+use Rattle.sheet.specs.Act.{Act, pure, _>>=_, _>>_, _≔_, restore, crossing}
 use Rattle.sheet.specs.Traps.{pop, vectored}
+
+-- the flags of a stored PSW, and its MD under the permission
+unfoldable pub takeBack : ℕ → Act Unit
+takeBack x = do
+  restore x
+  crossing (stored (nativeOf x))
 
 unfoldable pub popPsw : Act Unit
 popPsw = do
   x ← pop
-  restore x
-  crossing (stored (nativeOf x))
+  takeBack x
 
--- PC, PS and PSW are popped; the popped PSW says what becomes of MD
-unfoldable pub returning : (ℕ → Crossing) → Act Unit
-returning c = do
+-- PC and PS are popped, and a PSW, which is handed on
+unfoldable pub popReturn : Act ℕ
+popReturn = do
   pc ← pop
   ps ← pop
   x ← pop
   PC ≔ pc
   PS ≔ ps
-  restore x
-  crossing (c x)
+  pure x
 
 unfoldable pub reti : Act Unit
-reti = returning (λ x. stored (nativeOf x))
+reti = do
+  x ← popReturn
+  takeBack x
 
+-- native mode whatever MD was stored
 unfoldable pub retem : Act Unit
-retem = returning (λ x. back)
+retem = do
+  x ← popReturn
+  restore x
+  crossing back
 
 -- IE and BRK stay
 unfoldable pub brkem : ℕ → Act Unit
