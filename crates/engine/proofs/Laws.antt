@@ -11,11 +11,14 @@ use Rattle.sheet.specs.declared.State.{State}
 use Rattle.sheet.specs.declared.Instr.{Instr}
 use Rattle.sheet.specs.declared.Marks.{Marks}
 use Rattle.sheet.specs.declared.Progress.{Progress}
-use Rattle.sheet.specs.Registers.{PS, PC}
-use Rattle.sheet.specs.World.{World, world, stateOf}
+use Rattle.sheet.specs.Width.{pick}
+use Rattle.sheet.specs.Psw.{nativeOf}
+use Rattle.sheet.specs.Registers.{PS, PC, PSW}
+use Rattle.sheet.specs.World.{World, world, stateOf, pswOf}
 use Rattle.sheet.specs.Handler.{Outcome, run, kept, runBy, nothing}
-use Rattle.sheet.specs.Reading.{known}
+use Rattle.sheet.specs.Reading.{Reading, known}
 use Rattle.sheet.specs.FirstByte.{instruction}
+use Rattle.sheet.specs.CardCodes.{cardInstruction}
 use Rattle.sheet.specs.Contract.{Refuses, stops, exec, seen, report, reportOf}
 use Rattle.sheet.specs.Step.{refusal, source, codeByte, starting, stepping, decoded, awake, stepBy, step, stepReport, instructionIn}
 use Rattle.code_answer.specs.declared.Decoded.{Decoded}
@@ -32,12 +35,16 @@ use Rattle.step_one.specs.declared.Stepped.{Stepped}
 use Rattle.engine.specs.declared.Advanced.{Advanced}
 use Rattle.engine.specs.Steps.{refusedAt, advancedBy, answerOf, Carries, Advances, Moves, Steps}
 
+-- the table of a mode
+abbrev readingIn : Bool → Reading Instr
+readingIn native = pick native instruction cardInstruction
+
 -- what a machine that is not halted comes to, by what stands at PS:PC
 pub awake-known : (w : World) (i : Instr) (n : ℕ) → w .state .marks .halted ≡ false → instructionIn w ≡ known i n → awake kept w ≡ runBy kept (stepping i n) (starting i w)
 unfolding awake decoded
 awake-known w i n h e = rw (e, h)
 
-awake-unknown : (w : World) (k : ℕ) → w .state .marks .halted ≡ false → Refuses Instr instruction (source w) 0 k → seen (awake kept w) ≡ stops k
+awake-unknown : (w : World) (k : ℕ) → w .state .marks .halted ≡ false → Refuses Instr (readingIn (nativeOf (pswOf (w .state)))) (source w) 0 k → seen (awake kept w) ≡ stops k
 unfolding instructionIn awake decoded
 awake-unknown w k h r = rw (r .is, h)
 
@@ -57,13 +64,14 @@ module _ (f : List ℕ) (m : Marks) (q : Progress) (ram rom tape log : List ℕ)
   unfolding awake
   advances-halted a h e = rw e (refused-so (stateOf f m q) ram rom tape log 8 (rw h))
 
-  module _ (ps pc : ℕ) (a : ps ≡ getD f PS 0) (b : pc ≡ getD f PC 0) (h : m .halted ≡ false) (r : Decoded) (d : Decodes instruction (codeByte ram rom ps pc) 0 r) where
+  module _ (ps pc : ℕ) (a : ps ≡ getD f PS 0) (b : pc ≡ getD f PC 0) (h : m .halted ≡ false) (native : Bool) (o : native ≡ nativeOf (getD f PSW 0)) (r : Decoded)
+      (d : Decodes (readingIn native) (codeByte ram rom ps pc) 0 r) where
     up : World
     up = world (stateOf f m q) ram rom tape log
 
-    read : {x : Decoded} → r ≡ x → Decodes instruction (source up) 0 x
+    read : {x : Decoded} → r ≡ x → Decodes (readingIn (nativeOf (pswOf (up .state)))) (source up) 0 x
     unfolding up
-    read e = rw (a, b, e) at d
+    read e = rw (a, b, o, e) at d
 
     pub advances-unknown : (k : ℕ) (x : Advanced) → r ≡ Unknown k → x ≡ refusedAt m q k
         → Advances (stateOf f m q) ram rom tape log (x .done) (x .number) (stateOf f (x .marks) (x .progress)) ram log (x .bus)

@@ -2,6 +2,7 @@
 use code_answer::Decoded;
 use mach_registers::PC;
 use mach_registers::PS;
+use mach_registers::PSW;
 use sheet::Bus;
 use sheet::Instr;
 use sheet::Marks;
@@ -92,7 +93,8 @@ pub fn advance(
     if marks.halted {
         return refuse(marks, q, 8);
     }
-    match code_decode::decode(ram, rom, file[PS], file[PC]) {
+    let native = calc_flags::native(file[PSW]);
+    match code_mode::decode(native, ram, rom, file[PS], file[PC]) {
         Decoded::Known { instr, size } => carry_out(
             file,
             ram,

@@ -11,13 +11,13 @@ use Rattle.sheet.specs.declared.Bus.{Bus}
 use Rattle.sheet.specs.declared.Marks.{Marks}
 use Rattle.sheet.specs.declared.State.{State}
 use Rattle.sheet.specs.Width.{pick}
-use Rattle.sheet.specs.Psw.{IE, flagOf, fixedOf}
+use Rattle.sheet.specs.Psw.{IE, flagOf}
 use Rattle.sheet.specs.Registers.{PSW}
 use Rattle.sheet.specs.Log.{ceiling, rule}
 use Rattle.sheet.specs.World.{World, world, pswOf, markHalted}
 use Rattle.sheet.specs.Handler.{Outcome, kept, run, runBy, nothing}
 use Rattle.sheet.specs.Traps.{trap}
-use Rattle.sheet.specs.Step.{placesGood, marksGood, fits, sound, checked, refusal, interrupting, interruptBy, interrupt, interruptReport}
+use Rattle.sheet.specs.Step.{pswGood, placesGood, marksGood, fits, sound, checked, refusal, interrupting, interruptBy, interrupt, interruptReport}
 use Rattle.sheet.specs.Contract.{seen, exec, OnMemory, report, reportOf}
 use Rattle.sheet.proofs.Rules.{seq-last, ends-halted}
 use Rattle.mach_tally.specs.Sums.{Free}
@@ -41,11 +41,11 @@ module _ (s : State) (ram rom tape log : List ℕ) where
   unfolding fits
   fit h k = le-leb (length ram + length rom) 1048576 (omega arith)
 
-  pub check-good : (x p m : Bool) → length ram ≤ 1048576 → length rom ≤ 1048576 - length ram → x ≡ fixedOf (getD (s .file) PSW 0) → p ≡ placesGood s tape log → m ≡ marksGood (s .marks) → (x && (p && m)) ≡ true → 0 ≡ checkNumber (world s ram rom tape log)
+  pub check-good : (x p m : Bool) → length ram ≤ 1048576 → length rom ≤ 1048576 - length ram → x ≡ pswGood s → p ≡ placesGood s tape log → m ≡ marksGood (s .marks) → (x && (p && m)) ≡ true → 0 ≡ checkNumber (world s ram rom tape log)
   unfolding sound
   check-good x p m h k e q g z = rw (fit h k, ← e, ← q, ← g, z)
 
-  pub check-bad : (x p m : Bool) → length ram ≤ 1048576 → length rom ≤ 1048576 - length ram → x ≡ fixedOf (getD (s .file) PSW 0) → p ≡ placesGood s tape log → m ≡ marksGood (s .marks) → (x && (p && m)) ≡ false → 2 ≡ checkNumber (world s ram rom tape log)
+  pub check-bad : (x p m : Bool) → length ram ≤ 1048576 → length rom ≤ 1048576 - length ram → x ≡ pswGood s → p ≡ placesGood s tape log → m ≡ marksGood (s .marks) → (x && (p && m)) ≡ false → 2 ≡ checkNumber (world s ram rom tape log)
   unfolding sound
   check-bad x p m h k e q g z = rw (fit h k, ← e, ← q, ← g, z)
 

@@ -37,6 +37,16 @@ fn places_good(s: State, tape: &[u8], log: &[u8]) -> bool
     (s.progress.tape <= tape.len()) & (s.progress.log <= log.len())
 }
 
+// The fixed bits, and MD: 0 needs the permission.
+fn psw_good(s: State) -> bool
+    ensures { λ r. ⌜ r ≡ definition.pswGood s ⌝ }
+{
+    let psw = s.file[PSW];
+    let fixed = calc_flags::fixed(psw);
+    let native = calc_flags::native(psw);
+    fixed & (native | s.marks.writable)
+}
+
 // 1, 2, or 0 where neither is due.
 pub fn check(s: State, ram: &[u8], rom: &[u8], tape: &[u8], log: &[u8]) -> u8
     ensures { λ r. ⌜ r ≡ checkNumber (world s (now (ram .entry)) (now (rom .entry)) (now (tape .entry)) (now (log .entry))) ⌝ }
@@ -49,7 +59,7 @@ pub fn check(s: State, ram: &[u8], rom: &[u8], tape: &[u8], log: &[u8]) -> u8
     if 1048576 - long < n {
         return 1;
     }
-    let fixed = calc_flags::fixed(s.file[PSW]);
+    let fixed = psw_good(s);
     let placed = places_good(s, tape, log);
     let m = s.marks;
     let marked = mach_marks::good(m);

@@ -1,4 +1,6 @@
 // Every instruction's operation.
+use do_8080::Carded;
+use do_mode::Moded;
 use mach_ports::Ported;
 use mach_stack::Worked;
 use sheet::Bus;
@@ -51,6 +53,31 @@ fn quiet(m: Marks, q: Progress, b: Bus) -> Performed
 fn through(m: Marks, r: Ported) -> Performed
     ensures { λ x. ⌜ x ≡ record { number = r .number; trapped = false; marks = m; progress = r .progress; bus = r .bus } ⌝ }
 {
+    let p = r.progress;
+    let b = r.bus;
+    Performed {
+        number: r.number,
+        trapped: false,
+        marks: m,
+        progress: p,
+        bus: b,
+    }
+}
+
+// One that is lent the marks.
+fn marked(q: Progress, r: Moded) -> Performed
+    ensures { λ x. ⌜ x ≡ record { number = 0; trapped = false; marks = r .marks; progress = q; bus = r .bus } ⌝ }
+{
+    let m = r.marks;
+    let b = r.bus;
+    quiet(m, q, b)
+}
+
+// One of the 8080 mode.
+fn carded(r: Carded) -> Performed
+    ensures { λ x. ⌜ x ≡ record { number = r .number; trapped = false; marks = r .marks; progress = r .progress; bus = r .bus } ⌝ }
+{
+    let m = r.marks;
     let p = r.progress;
     let b = r.bus;
     Performed {
@@ -115,6 +142,14 @@ pub fn perform(
                 progress: q,
                 bus: mach_tally::none(),
             }
+        }
+        Instr::Modes(t) => {
+            let r = do_mode::mode(file, ram, rom, m, t);
+            marked(q, r)
+        }
+        Instr::Cards(t) => {
+            let r = do_8080::card(file, ram, rom, tape, log, m, q, t);
+            carded(r)
         }
     }
 }
