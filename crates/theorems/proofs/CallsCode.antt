@@ -1,9 +1,8 @@
 -- The calls in code, by their contracts: one result only, and what a refusal hands back.
 use Prim.Native.Nat.{ℕ}
-use mathlib.Core.Path.{_≡_, refl, sym, _∙_, ap}
+use mathlib.Core.Path.{_≡_, sym, _∙_, ap}
 use mathlib.Core.Bool.{Bool}
 use mathlib.Core.List.{List, []}
-use native.Mathlib.Omega.{arith}
 use Rattle.sheet.specs.declared.Bus.{Bus}
 use Rattle.sheet.specs.declared.State.{State}
 use Rattle.sheet.specs.declared.Entry.{Entry}
@@ -12,9 +11,6 @@ use Rattle.sheet.specs.Handler.{nothing}
 use Rattle.sheet.specs.Contract.{Report, report}
 use Rattle.sheet.specs.Step.{reset}
 use Rattle.sheet.specs.Run.{RunReport, runReported}
-use Rattle.log_record.specs.declared.Put.{Put}
-use Rattle.log_record.specs.declared.Put.the-variants.{Done, Full, Beyond}
-use Rattle.log_record.specs.Put.{putNumber, putCount, Logs}
 use Rattle.sheet.specs.declared.GapRule.{GapRule}
 use Rattle.log_reader.specs.Answer.{Answers}
 use Rattle.step_calls.specs.Calls.{Interrupts}
@@ -67,21 +63,6 @@ reset-once e f = e ∙ sym f
 -- what the log reader answers at a place
 pub entry-once : {g : GapRule} {log : List ℕ} {at : ℕ} {e e₂ : Entry} → Answers g log at e → Answers g log at e₂ → e ≡ e₂
 entry-once x y = x .answer ∙ sym (y .answer)
-
--- the log's writer: an answer is its number and its count of bytes
-same-put : (r q : Put) → putNumber r ≡ putNumber q → putCount r ≡ putCount q → r ≡ q
-same-put (Done n) (Done m) e f = ap Done f
-same-put (Done n) Full e f = absurd (omega arith)
-same-put (Done n) Beyond e f = absurd (omega arith)
-same-put Full (Done m) e f = absurd (omega arith)
-same-put Full Full e f = refl
-same-put Full Beyond e f = absurd (omega arith)
-same-put Beyond (Done m) e f = absurd (omega arith)
-same-put Beyond Full e f = absurd (omega arith)
-same-put Beyond Beyond e f = refl
-
-pub record-once : {b : List ℕ} {at : ℕ} {log : List ℕ} {r r₂ : Put} {left left₂ : List ℕ} → Logs b at log r left → Logs b at log r₂ left₂ → (r ≡ r₂) × (left ≡ left₂)
-record-once x y = (same-put _ _ (x .number ∙ sym (y .number)) (x .count ∙ sym (y .count)), x .after ∙ sym (y .after))
 
 -- ---- what a refusal hands back
 
