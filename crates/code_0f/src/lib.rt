@@ -12,9 +12,9 @@ ghost use Rattle.sheet.specs.Groups.{Decimals};
 ghost use Rattle.sheet.specs.declared.Decimal.the-variants.{Rol4, Ror4};
 ghost use Rattle.sheet.specs.Width.{pick};
 ghost use Rattle.sheet.specs.Reading.{got};
-ghost use Rattle.sheet.specs.Step.{codeByte};
 ghost use Rattle.sheet.specs.SecondByte.{withPlain, fieldInRegister, fieldGiven, secondBytes};
 ghost use Rattle.code_answer.specs.Answer.{Decodes, Names};
+ghost use Rattle.code_answer.specs.Lent.{lentCode};
 ghost use Rattle.code_0f.specs.Fields.{fieldOf};
 
 // The number of DS0.
@@ -23,7 +23,7 @@ const DS0: u8 = 3;
 // 10 to 1F: one bit of a place, whose number is in CL or follows.
 fn bits(ram: &[u8], rom: &[u8], ps: u16, pc: u16, p: Prefixes, b: u8, i: u16) -> Decoded
     requires { ⌜ (0x10 ≤ b) × ((b < 0x20) × (i ≤ 5)) ⌝ }
-    ensures { λ r. ⌜ Names (secondBytes p) b (codeByte (now (ram .entry)) (now (rom .entry)) ps pc) i r ⌝ }
+    ensures { λ r. ⌜ Names (secondBytes p) b (lentCode ram rom ps pc) i r ⌝ }
 {
     let o = code_operand::operands(ram, rom, ps, pc, p, i);
     if o.reg != 0 {
@@ -63,7 +63,7 @@ fn bits(ram: &[u8], rom: &[u8], ps: u16, pc: u16, p: Prefixes, b: u8, i: u16) ->
 // ROL4 and ROR4.
 fn rotated(ram: &[u8], rom: &[u8], ps: u16, pc: u16, p: Prefixes, left: bool, i: u16) -> Decoded
     requires { ⌜ i ≤ 5 ⌝ }
-    ensures { λ r. ⌜ Decodes (withPlain p (λ to. Decimals (pick left (Rol4 to) (Ror4 to)))) (codeByte (now (ram .entry)) (now (rom .entry)) ps pc) i r ⌝ }
+    ensures { λ r. ⌜ Decodes (withPlain p (λ to. Decimals (pick left (Rol4 to) (Ror4 to)))) (lentCode ram rom ps pc) i r ⌝ }
 {
     let o = code_operand::operands(ram, rom, ps, pc, p, i);
     if o.reg != 0 {
@@ -90,7 +90,9 @@ fn field(
     i: u16,
 ) -> Decoded
     requires { ⌜ i ≤ 5 ⌝ }
-    ensures { λ r. ⌜ Decodes (pick given (fieldGiven (λ o l. got (fieldOf ext seg o l))) (fieldInRegister (λ o l. got (fieldOf ext seg o l)))) (codeByte (now (ram .entry)) (now (rom .entry)) ps pc) i r ⌝ }
+    ensures { λ r. ⌜ Decodes
+        (pick given (fieldGiven (λ o l. got (fieldOf ext seg o l))) (fieldInRegister (λ o l. got (fieldOf ext seg o l))))
+        (lentCode ram rom ps pc) i r ⌝ }
 {
     let m = code_bytes::code_byte(ram, rom, ps, pc, i);
     if m / 64 != 3 {
@@ -123,7 +125,7 @@ fn field(
 
 pub fn codes0f(ram: &[u8], rom: &[u8], ps: u16, pc: u16, p: Prefixes, b: u8, i: u16) -> Decoded
     requires { ⌜ i ≤ 5 ⌝ }
-    ensures { λ r. ⌜ Names (secondBytes p) b (codeByte (now (ram .entry)) (now (rom .entry)) ps pc) i r ⌝ }
+    ensures { λ r. ⌜ Names (secondBytes p) b (lentCode ram rom ps pc) i r ⌝ }
 {
     if b < 0x10 {
         return Decoded::Unknown { number: 3 };

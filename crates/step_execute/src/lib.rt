@@ -8,7 +8,7 @@ use sheet::Progress;
 ghost use mathlib.Core.Path.{_≡_};
 ghost use mathlib.Core.Bool.{false};
 ghost use Rattle.sheet.specs.Execute.{operation};
-ghost use Rattle.step_execute.specs.Performs.{Performs};
+ghost use Rattle.step_execute.specs.Lent.{PerformsOn};
 
 // What an instruction came to: the refusal's number, whether it took a trap itself, the marks, the places, the bus.
 pub struct Performed {
@@ -74,7 +74,7 @@ pub fn perform(
     i: Instr,
     start: u16,
 ) -> Performed
-    ensures { λ r. ⌜ Performs (operation i start) (now (file .entry)) (now (ram .entry)) (now (rom .entry)) (now (tape .entry)) (now (log .entry)) m q (r .number) (r .trapped) (r .marks) (now (file .exit)) (now (ram .exit)) (now (log .exit)) (r .progress) (r .bus) ⌝ }
+    ensures { λ r. ⌜ PerformsOn (operation i start) file ram rom tape log m q r ⌝ }
 {
     match i {
         Instr::Computes(t) => quiet(m, q, step_plain::compute(file, ram, rom, t)),
