@@ -3,6 +3,7 @@ use Prim.Native.Nat.{ℕ, _+_, _*_, _≤_}
 use mathlib.Core.Bool.{true}
 use mathlib.Core.List.{List}
 use mathlib.Core.Path.{_≡_}
+use Rattle.mach_tally.specs.Bounds.{Fair}
 use Rattle.sheet.specs.declared.Bus.{Bus}
 use Rattle.sheet.specs.Act.{peek}
 use Rattle.sheet.specs.Handler.{_⊕_}
@@ -10,7 +11,7 @@ use Rattle.sheet.specs.Contract.{OnMemory}
 
 pub record Fetches (ram rom : List ℕ) (v pc ps : ℕ) (n : Bus) : Type 0 where
   pub most : n .cycles ≤ 2
-  pub fair : n .dropped ≤ 2 * n .cycles
+  pub fair : Fair n
   pub first : Bus
   pub second : Bus
   pub sum : n ≡ first ⊕ second

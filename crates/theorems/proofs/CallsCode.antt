@@ -20,6 +20,7 @@ use Rattle.theorems.specs.StandIns.{subtracting, subtracted, asleep}
 use Rattle.theorems.proofs.Calls.{report-once, step-hands-back, interrupt-hands-back}
 use Rattle.theorems.proofs.CallsStandIns.{asleep-refused}
 use Rattle.sheet.proofs.SmallTable.{small-table}
+use Rattle.mach_tally.specs.Sums.{cyclesOnly}
 
 -- ---- what code returns and lends back, as a world
 
@@ -83,7 +84,7 @@ interrupt-refused x h =
 -- ---- no stand-in: whatever code answers on two machines
 
 pub code-subtracts : {n : ℕ} {s′ : State} {ram′ log′ : List ℕ} {b : Bus} → Steps (subtracting .state) (subtracting .ram) [] [] [] n s′ ram′ log′ b
-    → (n ≡ 0) × (s′ ≡ subtracted .state) × (ram′ ≡ subtracted .ram) × (b ≡ record { cycles = 3; dropped = 0 })
+    → (n ≡ 0) × (s′ ≡ subtracted .state) × (ram′ ≡ subtracted .ram) × (b ≡ cyclesOnly 3)
 code-subtracts x = let (number, state, ram, log, bus) = reported (x .is) (small-table .sub4s) in (number, state, ram, bus)
 
 pub code-asleep : {n : ℕ} {s′ : State} {ram′ log′ : List ℕ} {b : Bus} → Steps (asleep .state) (asleep .ram) [] [] [] n s′ ram′ log′ b → (n ≡ 8) × (s′ ≡ asleep .state) × (b ≡ nothing)
