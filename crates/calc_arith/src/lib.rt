@@ -1,4 +1,5 @@
-// Addition, subtraction, the bitwise operations, INC, DEC, NOT and NEG, at either width and with all flags. No function here has a precondition.
+// Addition, subtraction, the bitwise operations, INC, DEC, NOT and NEG, at either width and with all flags.
+// No function here has a precondition.
 ghost use mathlib.Core.Path.{_≡_};
 ghost use mathlib.Core.Bool.{false};
 ghost use Rattle.sheet.specs.Psw.{CY, flagOf, becomes};

@@ -11,7 +11,8 @@ use sheet::Progress;
 use sheet::State;
 ghost use mathlib.Core.Path.{_≡_};
 ghost use Prim.Native.Nat.{_<_};
-ghost use Rattle.case_form.specs.Form.{placeOf, goodHeader, fileOf, stateOf, ruleOf, caseOf, withFile, withAnswer, withTally, withPlaces, withCall, withSums, withRecord, withEntry};
+ghost use Rattle.case_form.specs.Form.{placeOf, goodHeader, fileOf, stateOf, ruleOf, caseOf, withFile, withAnswer, withTally};
+ghost use Rattle.case_form.specs.Form.{withPlaces, withCall, withSums, withRecord, withEntry};
 
 // ---- the header
 

@@ -1,4 +1,5 @@
-// What bytes name, by the groups of section 8: one constructor for each that several crates name, since an instruction is a large value to the prover.
+// What bytes name, by the groups of section 8: one constructor for each that several crates name, since an instruction is a large
+// value to the prover.
 use sheet::Arithmetic;
 use sheet::Branch;
 use sheet::Compute;

@@ -13,8 +13,8 @@ use step_one::Stepped;
 ghost use mathlib.Core.Path.{_≡_};
 ghost use Rattle.sheet.specs.World.{world, stateOf};
 ghost use Rattle.step_calls.specs.Calls.{checkNumber};
-ghost use Rattle.engine.specs.Steps.{refusedAt, advancedBy, answerOf, Carries, Advances, Moves, Steps};
-ghost use Rattle.engine.specs.Runs.{Runs};
+ghost use Rattle.engine.specs.Steps.{refusedAt, advancedBy, answerOf};
+ghost use Rattle.engine.specs.Lent.{CarriesOn, AdvancesOn, MovesOn, StepsOn, RunsOn};
 
 // What comes of a step: done, or the number of its refusal, after which nothing has changed; the marks, the places, the bus.
 pub struct Advanced {
@@ -73,7 +73,7 @@ fn carry_out(
     i: Instr,
     size: u16,
 ) -> Advanced
-    ensures { λ r. ⌜ Carries i size (now (file .entry)) (now (ram .entry)) (now (rom .entry)) (now (tape .entry)) (now (log .entry)) marks q r (now (file .exit)) (now (ram .exit)) (now (log .exit)) ⌝ }
+    ensures { λ r. ⌜ CarriesOn i size file ram rom tape log marks q r ⌝ }
 {
     shown(step_one::proceed(file, ram, rom, tape, log, marks, q, i, size))
 }
@@ -88,7 +88,7 @@ pub fn advance(
     marks: Marks,
     q: Progress,
 ) -> Advanced
-    ensures { λ r. ⌜ Advances (stateOf (now (file .entry)) marks q) (now (ram .entry)) (now (rom .entry)) (now (tape .entry)) (now (log .entry)) (r .done) (r .number) (stateOf (now (file .exit)) (r .marks) (r .progress)) (now (ram .exit)) (now (log .exit)) (r .bus) ⌝ }
+    ensures { λ r. ⌜ AdvancesOn file ram rom tape log marks q r ⌝ }
 {
     if marks.halted {
         return refuse(marks, q, 8);
@@ -140,7 +140,7 @@ fn answer(file: [u16; 14], a: Advanced) -> Answer
 
 // One step of a machine that has passed the checks 1 and 2.
 fn move_on(s: State, ram: &mut [u8], rom: &[u8], tape: &[u8], log: &mut [u8]) -> Answer
-    ensures { λ r. ⌜ Moves s (now (ram .entry)) (now (rom .entry)) (now (tape .entry)) (now (log .entry)) (r .number) (r .state) (now (ram .exit)) (now (log .exit)) (r .bus) ⌝ }
+    ensures { λ r. ⌜ MovesOn s ram rom tape log (r .number) (r .state) (r .bus) ⌝ }
 {
     let mut file = s.file;
     let marks = s.marks;
@@ -151,7 +151,7 @@ fn move_on(s: State, ram: &mut [u8], rom: &[u8], tape: &[u8], log: &mut [u8]) ->
 
 // One step: checks 1, 2, 8, then the instruction.
 pub fn step(s: State, ram: &mut [u8], rom: &[u8], tape: &[u8], log: &mut [u8]) -> Answer
-    ensures { λ r. ⌜ Steps s (now (ram .entry)) (now (rom .entry)) (now (tape .entry)) (now (log .entry)) (r .number) (r .state) (now (ram .exit)) (now (log .exit)) (r .bus) ⌝ }
+    ensures { λ r. ⌜ StepsOn s ram rom tape log (r .number) (r .state) (r .bus) ⌝ }
 {
     let number = step_calls::check(s, ram, rom, tape, log);
     if number != 0 {
@@ -167,7 +167,7 @@ pub fn step(s: State, ram: &mut [u8], rom: &[u8], tape: &[u8], log: &mut [u8]) -
 // Steps of a machine that has passed the checks 1 and 2, until one refuses or the budget is spent.
 fn go_on(s: State, ram: &mut [u8], rom: &[u8], tape: &[u8], log: &mut [u8], budget: u16) -> Ran
     requires { ⌜ checkNumber (world s (now ram) (now rom) (now tape) (now log)) ≡ 0 ⌝ }
-    ensures { λ r. ⌜ Runs budget s (now (ram .entry)) (now (rom .entry)) (now (tape .entry)) (now (log .entry)) (r .number) (r .state) (now (ram .exit)) (now (log .exit)) (r .steps) (r .bus) ⌝ }
+    ensures { λ r. ⌜ RunsOn budget s ram rom tape log (r .number) (r .state) (r .steps) (r .bus) ⌝ }
 {
     let mut file = s.file;
     let mut marks = s.marks;
@@ -201,7 +201,7 @@ fn go_on(s: State, ram: &mut [u8], rom: &[u8], tape: &[u8], log: &mut [u8], budg
 
 // A run of at most `budget` steps: checks 1 and 2 once, since no step makes them fail.
 pub fn run(s: State, ram: &mut [u8], rom: &[u8], tape: &[u8], log: &mut [u8], budget: u16) -> Ran
-    ensures { λ r. ⌜ Runs budget s (now (ram .entry)) (now (rom .entry)) (now (tape .entry)) (now (log .entry)) (r .number) (r .state) (now (ram .exit)) (now (log .exit)) (r .steps) (r .bus) ⌝ }
+    ensures { λ r. ⌜ RunsOn budget s ram rom tape log (r .number) (r .state) (r .steps) (r .bus) ⌝ }
 {
     let number = step_calls::check(s, ram, rom, tape, log);
     if number != 0 {

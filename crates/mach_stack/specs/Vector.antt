@@ -5,6 +5,7 @@ use denote.Ref.{now}
 use lib.ListN.{getD, set}
 use mathlib.Core.List.{List}
 use mathlib.Core.Path.{_≡_}
+use Rattle.mach_tally.specs.Bounds.{Fair}
 use Rattle.sheet.specs.declared.Bus.{Bus}
 use Rattle.sheet.specs.declared.Marks.{Marks}
 use Rattle.sheet.specs.Registers.{PSW}
@@ -15,7 +16,7 @@ use Rattle.mach_tally.specs.Lent.{Lent}
 
 pub record Fetches (ram rom : List ℕ) (v pc ps : ℕ) (n : Bus) : Type 0 where
   pub most : n .cycles ≤ 2
-  pub fair : n .dropped ≤ 2 * n .cycles
+  pub fair : Fair n
   pub first : Bus
   pub second : Bus
   pub sum : n ≡ first ⊕ second

@@ -6,7 +6,8 @@ use sheet::State;
 ghost use mathlib.Core.Path.{_≡_};
 ghost use Rattle.sheet.specs.World.{world};
 ghost use Rattle.sheet.specs.Step as definition;
-ghost use Rattle.step_calls.specs.Calls.{checkNumber, heldNumber, Accepts, Interrupts};
+ghost use Rattle.step_calls.specs.Calls.{checkNumber, heldNumber};
+ghost use Rattle.step_calls.specs.Lent.{AcceptsOn, InterruptsOn};
 
 // What a call answers: the number, the state and the bus.
 pub struct Answer {
@@ -71,7 +72,7 @@ pub fn check(s: State, ram: &[u8], rom: &[u8], tape: &[u8], log: &[u8]) -> u8
 
 // The interrupt itself, once it is accepted.
 fn accept(s: State, ram: &mut [u8], rom: &[u8], vector: u8) -> Answer
-    ensures { λ r. ⌜ Accepts vector s (now (ram .entry)) (now (rom .entry)) (r .number) (r .state) (now (ram .exit)) (r .bus) ⌝ }
+    ensures { λ r. ⌜ AcceptsOn vector s ram rom (r .number) (r .state) (r .bus) ⌝ }
 {
     let mut file = s.file;
     let m = s.marks;
@@ -113,7 +114,7 @@ pub fn interrupt(
     vector: u8,
     maskable: bool,
 ) -> Answer
-    ensures { λ r. ⌜ Interrupts vector maskable s (now (ram .entry)) (now (rom .entry)) (now (tape .entry)) (now (log .entry)) (r .number) (r .state) (now (ram .exit)) (r .bus) ⌝ }
+    ensures { λ r. ⌜ InterruptsOn vector maskable s ram rom tape log (r .number) (r .state) (r .bus) ⌝ }
 {
     let number = check(s, ram, rom, tape, log);
     if number != 0 {

@@ -27,6 +27,7 @@ use Rattle.sheet.proofs.SmallTable.{small-table}
 use Rattle.log_record.proofs.Vectors.{sample-first}
 use Rattle.theorems.specs.Bounds.{Bytes}
 use Rattle.sheet.specs.Lendable.{every, lendable}
+use Rattle.mach_tally.specs.Sums.{cyclesOnly}
 use Rattle.theorems.specs.StandIns.{MeetsStep, MeetsInterrupt, MeetsReader, numberOf, worldOf, busOf, subtracting, subtracted, adjusting, adjusted, asleep, callable, entered, masked, sampleLog}
 
 -- ---- buffers
@@ -52,10 +53,10 @@ asleep-refused = refl
 -- ---- step
 
 module _ (engine : World → Report) (meets : MeetsStep engine) where
-  at-subtracting : engine subtracting ≡ report 0 subtracted (record { cycles = 3; dropped = 0 })
+  at-subtracting : engine subtracting ≡ report 0 subtracted (cyclesOnly 3)
   at-subtracting = sym (meets subtracting refl) ∙ small-table .sub4s
 
-  at-adjusting : engine adjusting ≡ report 0 adjusted (record { cycles = 0; dropped = 0 })
+  at-adjusting : engine adjusting ≡ report 0 adjusted (cyclesOnly 0)
   at-adjusting = sym (meets adjusting refl) ∙ small-table .adj4a
 
   at-asleep : engine asleep ≡ report 8 asleep nothing
@@ -101,7 +102,7 @@ module _ (engine : World → Report) (meets : MeetsStep engine) where
 
 -- ---- an interrupt call
 
-pub takes-it : interruptReport 0 false callable ≡ report 0 entered (record { cycles = 5; dropped = 0 })
+pub takes-it : interruptReport 0 false callable ≡ report 0 entered (cyclesOnly 5)
 unfolding interruptReport interrupt interruptBy fits sound interrupting trap save pushPsw pushPsPc jumpFar push _>>=_ runBy tally wrapOf settled readMem writeMem byteAt busCycles lost lostBytes
 takes-it = refl
 
@@ -110,7 +111,7 @@ unfolding interruptReport interrupt interruptBy fits sound
 is-masked = refl
 
 module _ (engine : ℕ → Bool → World → Report) (meets : MeetsInterrupt engine) where
-  at-callable : engine 0 false callable ≡ report 0 entered (record { cycles = 5; dropped = 0 })
+  at-callable : engine 0 false callable ≡ report 0 entered (cyclesOnly 5)
   at-callable = sym (meets 0 false callable (lit≤ tt) refl) ∙ takes-it
 
   at-masked : engine 0 true masked ≡ report 7 masked nothing

@@ -9,3 +9,4 @@ pub mod Rows
 pub mod Access
 pub mod Outcomes
 pub mod LogCode
+pub mod Lent
