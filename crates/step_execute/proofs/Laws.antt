@@ -173,14 +173,14 @@ module _ (o : Act Bool) (f g ram ram′ rom tape log : List ℕ) (h : Marks) (q 
       → Comes o f ram rom tape log h q x g ram′ log
   at-marked p r k e m j u = rw (e, u) (marked-is p f g ram ram′ rom tape log h (r .marks) q (r .bus) k m j)
 
-  pub at-carded : (p : Act Unit) (r : Carded) (log′ : List ℕ) (k : ℕ) → k ≤ 1020
-      → OnAll p f ram rom tape log h q (r .number) g ram′ log′ (r .marks) (r .progress) (r .bus) k → x ≡ handed (r .number) false (r .marks) (r .progress) (r .bus)
-      → Comes (untrapped p) f ram rom tape log h q x g ram′ log′
-  at-carded p r log′ k m j u = rw u (carded-is p f g ram ram′ rom tape log log′ h (r .marks) q (r .progress) (r .number) (r .bus) k m j)
+module _ (f g ram ram′ rom tape log log′ : List ℕ) (h : Marks) (q : Progress) (x : Performed) where
+  pub at-carded : (p : Act Unit) (r : Carded) (k : ℕ) → k ≤ 1020 → OnAll p f ram rom tape log h q (r .number) g ram′ log′ (r .marks) (r .progress) (r .bus) k
+      → x ≡ handed (r .number) false (r .marks) (r .progress) (r .bus) → Comes (untrapped p) f ram rom tape log h q x g ram′ log′
+  at-carded p r k m j u = rw u (carded-is p f g ram ram′ rom tape log log′ h (r .marks) q (r .progress) (r .number) (r .bus) k m j)
 
-  -- a tree that is known to be another
-  pub at-same : (p : Act Bool) (log′ : List ℕ) → o ≡ p → Comes p f ram rom tape log h q x g ram′ log′ → Comes o f ram rom tape log h q x g ram′ log′
-  at-same p log′ e j = rw e j
+  pub at-card : (i : Instr) (start : ℕ) (t : Card) → i ≡ Cards t → Comes (untrapped (carding t)) f ram rom tape log h q x g ram′ log′
+      → Comes (operation i start) f ram rom tape log h q x g ram′ log′
+  at-card i start t e j = rw (of-cards i start t e) j
 
 pub at-control : (o : Act Bool) (f g ram rom tape log : List ℕ) (h : Marks) (q : Progress) (t : Control) (h′ : Marks) (n : Bus) → o ≡ untrapped (control t) → do-control.Controls t f h g h′ → Free n
     → Performs o f ram rom tape log h q 0 false h′ g ram log q n

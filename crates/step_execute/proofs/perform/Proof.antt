@@ -1,4 +1,4 @@
-use Rattle.step_execute.proofs.Laws.{at-control, at-marked, at-quiet, at-same, at-through, at-told, of-blocks, of-cards, of-computes, of-controls, of-interrupts, of-modes, of-moves, of-multiplies, of-ports}
+use Rattle.step_execute.proofs.Laws.{at-card, at-control, at-marked, at-quiet, at-through, at-told, of-blocks, of-computes, of-controls, of-interrupts, of-modes, of-moves, of-multiplies, of-ports}
 use borrow.Author.Needs.{needs}
 use Rattle.step_execute.proofs.perform.Statement.{statement}
 use Rattle.step_execute.proofs.perform.Tie as tie
@@ -28,7 +28,7 @@ returns-8 : tie.Need-returns-8
 returns-8 c = search (at-marked, of-modes, needs)
 
 returns-9 : tie.Need-returns-9
-returns-9 c = search (at-same, of-cards, needs)
+returns-9 c = search (at-card, needs)
 
 pub perform-spec : {M : Type 1} → statement M
 perform-spec =
