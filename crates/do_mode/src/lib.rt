@@ -91,10 +91,7 @@ fn calln(file: &mut [u16; 14], ram: &mut [u8], rom: &[u8], m: Marks, v: u8) -> M
 {
     let x = calc_psw::in_mode(true, file[PSW]);
     let b = mach_stack::vectored(file, ram, rom, v, x);
-    Moded {
-        marks: m,
-        bus: b,
-    }
+    Moded { marks: m, bus: b }
 }
 
 pub fn mode(file: &mut [u16; 14], ram: &mut [u8], rom: &[u8], m: Marks, i: Mode) -> Moded

@@ -33,7 +33,7 @@ use Rattle.step_one.specs.Proceeds.{Proceeds}
 use Rattle.step_calls.specs.declared.Answer.{Answer}
 use Rattle.step_one.specs.declared.Stepped.{Stepped}
 use Rattle.engine.specs.declared.Advanced.{Advanced}
-use Rattle.engine.specs.Steps.{refusedAt, advancedBy, answerOf, Carries, Advances, Moves, Steps}
+use Rattle.engine.specs.Steps.{refusedAt, advancedBy, answerOf, Carries, Advances, Moves, Steps, NextIn}
 
 -- the table of a mode
 abbrev readingIn : Bool → Reading Instr
@@ -47,6 +47,10 @@ awake-known w i n h e = rw (e, h)
 awake-unknown : (w : World) (k : ℕ) → w .state .marks .halted ≡ false → Refuses Instr (readingIn (nativeOf (pswOf (w .state)))) (source w) 0 k → seen (awake kept w) ≡ stops k
 unfolding instructionIn awake decoded
 awake-unknown w k h r = rw (r .is, h)
+
+pub next-in : (f ram rom : List ℕ) (ps pc : ℕ) (native : Bool) (r : Decoded) → ps ≡ getD f PS 0 → pc ≡ getD f PC 0 → native ≡ nativeOf (getD f PSW 0)
+    → Decodes (readingIn native) (codeByte ram rom ps pc) 0 r → NextIn f ram rom r
+next-in f ram rom ps pc native r a b o d = record { is = rw (a, b, o) at d }
 
 pub refused-as : (m : Marks) (q : Progress) (number : ℕ) (n : Bus) → Free n → record { done = false; number = number; marks = m; progress = q; bus = n } ≡ refusedAt m q number
 refused-as m q number n e = rw (e .is)
@@ -64,14 +68,13 @@ module _ (f : List ℕ) (m : Marks) (q : Progress) (ram rom tape log : List ℕ)
   unfolding awake
   advances-halted a h e = rw e (refused-so (stateOf f m q) ram rom tape log 8 (rw h))
 
-  module _ (ps pc : ℕ) (a : ps ≡ getD f PS 0) (b : pc ≡ getD f PC 0) (h : m .halted ≡ false) (native : Bool) (o : native ≡ nativeOf (getD f PSW 0)) (r : Decoded)
-      (d : Decodes (readingIn native) (codeByte ram rom ps pc) 0 r) where
+  module _ (h : m .halted ≡ false) (r : Decoded) (d : NextIn f ram rom r) where
     up : World
     up = world (stateOf f m q) ram rom tape log
 
     read : {x : Decoded} → r ≡ x → Decodes (readingIn (nativeOf (pswOf (up .state)))) (source up) 0 x
     unfolding up
-    read e = rw (a, b, o, e) at d
+    read e = rw e at (d .is)
 
     pub advances-unknown : (k : ℕ) (x : Advanced) → r ≡ Unknown k → x ≡ refusedAt m q k
         → Advances (stateOf f m q) ram rom tape log (x .done) (x .number) (stateOf f (x .marks) (x .progress)) ram log (x .bus)

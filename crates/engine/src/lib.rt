@@ -13,7 +13,7 @@ use step_one::Stepped;
 ghost use mathlib.Core.Path.{_≡_};
 ghost use Rattle.sheet.specs.World.{world, stateOf};
 ghost use Rattle.step_calls.specs.Calls.{checkNumber};
-ghost use Rattle.engine.specs.Steps.{refusedAt, advancedBy, answerOf};
+ghost use Rattle.engine.specs.Steps.{refusedAt, advancedBy, answerOf, NextIn};
 ghost use Rattle.engine.specs.Lent.{CarriesOn, AdvancesOn, MovesOn, StepsOn, RunsOn};
 
 // What comes of a step: done, or the number of its refusal, after which nothing has changed; the marks, the places, the bus.
@@ -78,7 +78,15 @@ fn carry_out(
     shown(step_one::proceed(file, ram, rom, tape, log, marks, q, i, size))
 }
 
-// The instruction at PS:PC, of a machine that has passed the checks 1 and 2.
+// The instruction at PS:PC in the mode in force.
+fn next(file: &[u16; 14], ram: &[u8], rom: &[u8]) -> Decoded
+    ensures { λ r. ⌜ NextIn (now (file .entry)) (now (ram .entry)) (now (rom .entry)) r ⌝ }
+{
+    let native = calc_flags::native(file[PSW]);
+    code_mode::decode(native, ram, rom, file[PS], file[PC])
+}
+
+// One step of a machine that has passed the checks 1 and 2.
 pub fn advance(
     file: &mut [u16; 14],
     ram: &mut [u8],
@@ -93,8 +101,7 @@ pub fn advance(
     if marks.halted {
         return refuse(marks, q, 8);
     }
-    let native = calc_flags::native(file[PSW]);
-    match code_mode::decode(native, ram, rom, file[PS], file[PC]) {
+    match next(file, ram, rom) {
         Decoded::Known { instr, size } => carry_out(
             file,
             ram,

@@ -1,6 +1,6 @@
 -- What each return of the code comes to, over plain values.
 use Prim.Native.Nat.{ℕ, _+_, _-_, _≤_, _<_, zero-le}
-use mathlib.Core.Bool.{Bool, true, false, not, _&&_, and-true}
+use mathlib.Core.Bool.{Bool, true, false, not, _&&_, and-true, _||_}
 use mathlib.Core.List.{List}
 use mathlib.Core.Path.{_≡_, refl, sym, ap, _∙_}
 use native.Mathlib.Omega.{arith}
@@ -11,7 +11,7 @@ use Rattle.sheet.specs.declared.Bus.{Bus}
 use Rattle.sheet.specs.declared.Marks.{Marks}
 use Rattle.sheet.specs.declared.State.{State}
 use Rattle.sheet.specs.Width.{pick}
-use Rattle.sheet.specs.Psw.{IE, flagOf}
+use Rattle.sheet.specs.Psw.{IE, flagOf, nativeOf, fixedOf}
 use Rattle.sheet.specs.Registers.{PSW}
 use Rattle.sheet.specs.Log.{ceiling, rule}
 use Rattle.sheet.specs.World.{World, world, pswOf, markHalted}
@@ -26,6 +26,9 @@ use Rattle.step_calls.specs.Calls.{checkNumber, heldNumber, Accepts, Int
 -- the count's type holds it within the ceiling
 pub count-good : (s : State) (tape log : List ℕ) → s .progress .count ≤ ceiling rule → (leb (s .progress .tape) (length tape) && leb (s .progress .log) (length log)) ≡ placesGood s tape log
 count-good s tape log h = rw (le-leb (s .progress .count) (ceiling rule) h, and-true (leb (s .progress .log) (length log)))
+
+pub psw-good-is : (s : State) (x n : Bool) → x ≡ fixedOf (getD (s .file) PSW 0) → n ≡ nativeOf (getD (s .file) PSW 0) → (x && (n || s .marks .writable)) ≡ pswGood s
+psw-good-is s x n e q = rw (e, q)
 
 module _ (s : State) (ram rom tape log : List ℕ) where
   -- RAM alone is too long, or both together
