@@ -1,9 +1,10 @@
 -- What each return of the code comes to, over plain values.
 use Prim.Native.Nat.{ℕ, zero, suc, _+_, _*_, _/_, _%_, _≤_, _<_}
 use mathlib.Core.Path.{_≡_, refl}
-use mathlib.Core.Bool.{Bool, true, false}
-use mathlib.Core.List.{List}
+use mathlib.Core.Bool.{Bool, true, false, not}
+use mathlib.Core.List.{List, [], _∷_}
 use native.Mathlib.Omega.{arith}
+use lib.Bits.{bitAnd}
 use lib.Dec.{eqb}
 use lib.ListN.{getD, set}
 use borrow.Author.Tests.{ne-eqb, eq-eqb, lt-ltb, le-ltb}
@@ -16,21 +17,25 @@ use Rattle.sheet.specs.declared.Place.the-variants.{Register}
 use Rattle.sheet.specs.declared.Source.the-variants.{Held, Immediate}
 use Rattle.sheet.specs.declared.Spot.{Spot}
 use Rattle.sheet.specs.declared.Spot.the-variants.{InRegister}
-use Rattle.sheet.specs.Width.{pick, add16}
+use Rattle.sheet.specs.declared.Unary.{Unary}
+use Rattle.sheet.specs.declared.Unary.the-variants.{Inc, Dec, Not, Neg}
+use Rattle.sheet.specs.Width.{pick, add16, sub16}
 use Rattle.sheet.specs.Psw.{CY, flagOf}
-use Rattle.sheet.specs.Registers.{PSW, BW, inDs0, fileOf, readReg, segment}
+use Rattle.sheet.specs.Registers.{PSW, CW, BW, inDs0, fileOf, readReg, segment}
 use Rattle.sheet.specs.FirstByte.{operations, operationAt}
 use Rattle.sheet.specs.Operand.{form, forms, formAt, indexOf, formOffset, offsetOf, baseOf, locate, fetch, deposit, valueAt, sourceValue, setReg}
-use Rattle.sheet.specs.Arithmetic.{Result, operate, conclude, two}
+use Rattle.sheet.specs.Act.{affect}
+use Rattle.sheet.specs.Arithmetic.{Result, logical, unary, finish, operate, conclude, two, one, test}
 use Rattle.sheet.specs.Transfer.{mov}
-use Rattle.sheet.specs.Branch.{branchIf}
+use Rattle.sheet.specs.Branch.{jump, branchIf, dbnz}
 use Rattle.sheet.specs.Contract.{OnFile, flagged}
 use Rattle.sheet.proofs.Lifted.{file-pure, file-seq, file-registers, file-set}
 use Rattle.calc_psw.proofs.Results.{file-affect, value-is}
 use Rattle.mach_registers.proofs.Laws.{file-reg, file-word}
 use Rattle.calc_arith.specs.Operate.{operated}
 use Rattle.calc_arith.proofs.OperateLaws.{operate-ends}
-use Rattle.quick_place.specs.Packed.{opOf, condOf, wordOf, rmOf, regOf, segOf, dispOf, immOf, addressAt, addressOf}
+use Rattle.do_conditional.proofs.Laws.{jumps, stays, counts, dbnz-is}
+use Rattle.quick_place.specs.Packed.{opOf, unaryAt, condOf, wordOf, rmOf, regOf, segOf, dispOf, immOf, addressAt, addressOf}
 use Rattle.quick_do.specs.Settle.{settle}
 
 -- ---- address forms
@@ -63,6 +68,21 @@ op-below r = omega arith
 pub op-last : (r : ℕ) → (opOf r ≡ 0 → ⊥) → (opOf r ≡ 1 → ⊥) → (opOf r ≡ 2 → ⊥) → (opOf r ≡ 3 → ⊥) → (opOf r ≡ 4 → ⊥) → (opOf r ≡ 5 → ⊥) → (opOf r ≡ 6 → ⊥) → Cmp ≡ operationAt (opOf r)
 unfolding operationAt
 op-last r a b c d e f g = rw (seven (opOf r) (op-below r) (from-four (opOf r) a b c d) e f g)
+
+pub unary-at : (r k : ℕ) (op : Unary) → opOf r ≡ k → op ≡ getD (Inc ∷ Dec ∷ Not ∷ Neg ∷ []) k Inc → op ≡ unaryAt (opOf r)
+unfolding unaryAt
+unary-at r k op e h = rw e h
+
+others-inc : (k : ℕ) → (k ≡ 1 → ⊥) → (k ≡ 2 → ⊥) → (k ≡ 3 → ⊥) → Inc ≡ unaryAt k
+unfolding unaryAt
+others-inc zero a b c = refl
+others-inc (suc zero) a b c = absurd (a refl)
+others-inc (suc (suc zero)) a b c = absurd (b refl)
+others-inc (suc (suc (suc zero))) a b c = absurd (c refl)
+others-inc (suc (suc (suc (suc k)))) a b c = refl
+
+pub unary-else : (r : ℕ) → (opOf r ≡ 1 → ⊥) → (opOf r ≡ 2 → ⊥) → (opOf r ≡ 3 → ⊥) → Inc ≡ unaryAt (opOf r)
+unary-else r a b c = others-inc (opOf r) a b c
 
 -- the first four forms have an index, the others none
 indexed : (k : ℕ) → k < 4 → getD forms k (form BW Nothing inDs0) .index ≡ Of (6 + k % 2)
@@ -156,6 +176,15 @@ two-is : (op : Operation) (w : Bool) (to from b : ℕ) (f g : List ℕ) → b �
 unfolding two settle locate fetch sourceValue valueAt
 two-is op w to from b f g q h = file-seq _ file-pure (file-seq _ (file-reg w to refl) (file-seq _ (file-seq _ file-pure (file-reg w from q)) h))
 
+two-imm-is : (op : Operation) (w : Bool) (to b : ℕ) (f g : List ℕ) → OnFile Unit (settle op w (InRegister to) (readReg w (fileOf f) to) b) f tt g → OnFile Unit (two op w (Register to) (Immediate b)) f tt g
+unfolding two settle locate fetch sourceValue
+two-imm-is op w to b f g h = file-seq _ file-pure (file-seq _ (file-reg w to refl) (file-seq _ file-pure h))
+
+one-is : (op : Unary) (w : Bool) (n a : ℕ) (x : Flagged) (f g : List ℕ) → a ≡ readReg w (fileOf f) n → x ≡ flagged (unary op w a) (getD f PSW 0)
+    → OnFile Unit (setReg w n (x .value)) (set f PSW (x .psw)) tt g → OnFile Unit (one op w (Register n)) f tt g
+unfolding one finish locate fetch deposit
+one-is op w n a x f g q e h = let o = unary op w a in file-seq _ file-pure (file-seq _ (file-reg w n q) (file-seq _ (file-affect o f x e) (rw (value-is o f x e) at h)))
+
 mov-reg-is : (w : Bool) (to from v : ℕ) (f g : List ℕ) → v ≡ readReg w (fileOf f) from → OnFile Unit (setReg w to v) f tt g → OnFile Unit (mov w (Register to) (Held (Register from))) f tt g
 unfolding mov locate fetch sourceValue valueAt deposit
 mov-reg-is w to from v f g q h = file-seq _ (file-seq _ file-pure (file-reg w from q)) (file-seq _ file-pure h)
@@ -179,5 +208,35 @@ module _ (r m n : ℕ) (w : Bool) (f g : List ℕ) where
       → OnFile Unit (mov (wordOf r) (Register (rmOf r)) (Held (Register (regOf r)))) f tt g
   mov-rr-is v d k q l h = rw (← d, ← k, ← l) (mov-reg-is w m n v f g q h)
 
-  pub mov-ri-is : w ≡ wordOf r → m ≡ rmOf r → OnFile Unit (setReg w m (immOf r)) f tt g → OnFile Unit (mov (wordOf r) (Register (rmOf r)) (Immediate (immOf r))) f tt g
-  mov-ri-is d l h = rw (← d, ← l) (mov-imm-is w m (immOf r) f g h)
+  pub mov-ri-is : (v : ℕ) → w ≡ wordOf r → m ≡ rmOf r → v ≡ immOf r → OnFile Unit (setReg w m v) f tt g → OnFile Unit (mov (wordOf r) (Register (rmOf r)) (Immediate (immOf r))) f tt g
+  mov-ri-is v d l e h = rw (← d, ← l, ← e) (mov-imm-is w m v f g h)
+
+  pub alu-ri-is : (op : Operation) (b : ℕ) → op ≡ operationAt (opOf r) → w ≡ wordOf r → b ≡ immOf r → m ≡ rmOf r → OnFile Unit (settle op w (InRegister m) (readReg w (fileOf f) m) b) f tt g
+      → OnFile Unit (two (operationAt (opOf r)) (wordOf r) (Register (rmOf r)) (Immediate (immOf r))) f tt g
+  alu-ri-is op b a d q l h = rw (← a, ← d, ← q, ← l) (two-imm-is op w m b f g h)
+
+  pub one-r-is : (op : Unary) (a : ℕ) (x : Flagged) → op ≡ unaryAt (opOf r) → w ≡ wordOf r → m ≡ rmOf r → a ≡ readReg w (fileOf f) m → x ≡ flagged (unary op w a) (getD f PSW 0)
+      → OnFile Unit (setReg w m (x .value)) (set f PSW (x .psw)) tt g → OnFile Unit (one (unaryAt (opOf r)) (wordOf r) (Register (rmOf r))) f tt g
+  one-r-is op a x k d l q e h = rw (← k, ← d, ← l) (one-is op w m a x f g q e h)
+
+  module _ (a b : ℕ) (wide : w ≡ wordOf r) (left : m ≡ rmOf r) (first : a ≡ readReg w (fileOf f) m) (does : OnFile Unit (affect (logical w (bitAnd a b) .column)) f tt g) where
+    pub test-rr-is : n ≡ regOf r → b ≡ readReg w (fileOf f) n → OnFile Unit (test (wordOf r) (Register (rmOf r)) (Held (Register (regOf r)))) f tt g
+    unfolding test valueAt sourceValue locate fetch
+    test-rr-is k q = rw (← wide, ← left, ← k) (file-seq _ (file-seq _ file-pure (file-reg w m first)) (file-seq _ (file-seq _ file-pure (file-reg w n q)) does))
+
+    pub test-ri-is : b ≡ immOf r → OnFile Unit (test (wordOf r) (Register (rmOf r)) (Immediate (immOf r))) f tt g
+    unfolding test valueAt sourceValue locate fetch
+    test-ri-is q = rw (← wide, ← left, ← q) (file-seq _ (file-seq _ file-pure (file-reg w m first)) (file-seq _ file-pure does))
+
+pub test-flags : (w : Bool) (a b : ℕ) (x : Flagged) (f : List ℕ) → x ≡ flagged (logical w (bitAnd a b)) (getD f PSW 0) → OnFile Unit (affect (logical w (bitAnd a b) .column)) f tt (set f PSW (x .psw))
+test-flags w a b x f e = file-affect (logical w (bitAnd a b)) f x e
+
+module _ (r d : ℕ) (f g : List ℕ) (disp : d ≡ dispOf r) where
+  pub br-is : OnFile Unit (jump d) f tt g → OnFile Unit (jump (dispOf r)) f tt g
+  br-is h = rw (← disp) h
+
+  pub dbnz-goes : (x : ℕ) → x ≡ sub16 (getD f CW 0) 1 → (x ≡ 0 → ⊥) → OnFile Unit (jump d) (set f CW x) tt g → OnFile Unit (dbnz (dispOf r)) f tt g
+  dbnz-goes x e z h = rw (← disp) (dbnz-is f g (set f CW x) d _ (counts f g f d x e) (jumps (set f CW x) g f d _ (rw (ne-eqb x 0 z)) h))
+
+pub dbnz-ends : (r x : ℕ) (f : List ℕ) → x ≡ sub16 (getD f CW 0) 1 → x ≡ 0 → OnFile Unit (dbnz (dispOf r)) f tt (set f CW x)
+dbnz-ends r x f e z = dbnz-is f (set f CW x) (set f CW x) (dispOf r) _ (counts f f f (dispOf r) x e) (stays (set f CW x) f f (dispOf r) _ (rw (eq-eqb x 0 z)))

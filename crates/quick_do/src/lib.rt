@@ -1,6 +1,8 @@
 // What readings do that need the registers alone, and the addresses of the others.
+use mach_registers::CW;
 use mach_registers::PSW;
 use sheet::Operation;
+use sheet::Unary;
 ghost use mathlib.Core.Path.{_≡_};
 ghost use Prim.Native.Nat.{_≤_, _<_};
 ghost use Rattle.sheet.specs.declared.Place.the-variants.{Register};
@@ -9,11 +11,13 @@ ghost use Rattle.sheet.specs.declared.Spot.the-variants.{InRegister};
 ghost use Rattle.sheet.specs.Registers.{fileOf, readReg};
 ghost use Rattle.sheet.specs.Operand.{formAt, formOffset, offsetOf, baseOf};
 ghost use Rattle.sheet.specs.FirstByte.{operationAt};
+ghost use lib.Bits.{bitAnd};
+ghost use Rattle.sheet.specs.Act.{affect};
 ghost use Rattle.sheet.specs.Arithmetic as tree;
 ghost use Rattle.sheet.specs.Transfer.{mov};
-ghost use Rattle.sheet.specs.Branch.{branchIf};
+ghost use Rattle.sheet.specs.Branch.{jump, branchIf, dbnz as dbnzOf};
 ghost use Rattle.sheet.specs.Contract.{OnFile};
-ghost use Rattle.quick_place.specs.Packed.{opOf, condOf, wordOf, rmOf, regOf, dispOf, immOf, addressOf};
+ghost use Rattle.quick_place.specs.Packed.{opOf, unaryAt, condOf, wordOf, rmOf, regOf, dispOf, immOf, addressOf};
 ghost use Rattle.quick_do.specs.Settle.{settle};
 
 // ---- the reading's fields
@@ -55,6 +59,23 @@ pub fn disp_of(r: u64) -> u16
     ensures { λ x. ⌜ x ≡ dispOf r ⌝ }
 {
     (r / 4294967296 % 65536) as u16
+}
+
+pub fn imm_of(r: u64) -> u16
+    ensures { λ x. ⌜ x ≡ immOf r ⌝ }
+{
+    (r / 281474976710656) as u16
+}
+
+pub fn unary_of(r: u64) -> Unary
+    ensures { λ x. ⌜ x ≡ unaryAt (opOf r) ⌝ }
+{
+    match r / 1048576 % 8 {
+        1 => Unary::Dec,
+        2 => Unary::Not,
+        3 => Unary::Neg,
+        _ => Unary::Inc,
+    }
 }
 
 // ---- addresses
@@ -156,7 +177,7 @@ pub fn mov_ri(file: &mut [u16; 14], r: u64)
     ensures { λ _. ⌜ OnFile Unit (mov (wordOf r) (Register (rmOf r)) (Immediate (immOf r))) (now (file .entry)) tt (now (file .exit)) ⌝ }
 {
     let word = word_of(r);
-    mach_registers::set_reg(word, file, rm_of(r), (r / 281474976710656) as u16);
+    mach_registers::set_reg(word, file, rm_of(r), imm_of(r));
 }
 
 // Kind 10: a conditional branch.
@@ -164,4 +185,70 @@ pub fn branch_if(file: &mut [u16; 14], r: u64)
     ensures { λ _. ⌜ OnFile Unit (branchIf (condOf r) (dispOf r)) (now (file .entry)) tt (now (file .exit)) ⌝ }
 {
     do_conditional::branch_if(file, (r / 1048576 % 16) as u8, disp_of(r));
+}
+
+// Kind 16: an operation on a register and an immediate.
+pub fn alu_ri(file: &mut [u16; 14], r: u64)
+    ensures { λ _. ⌜ OnFile Unit (tree.two (operationAt (opOf r)) (wordOf r) (Register (rmOf r)) (Immediate (immOf r))) (now (file .entry)) tt (now (file .exit)) ⌝ }
+{
+    let op = op_of(r);
+    let word = word_of(r);
+    alu_to(file, op, word, rm_of(r), imm_of(r));
+}
+
+// Kind 19: INC, DEC, NOT, NEG of a register.
+pub fn one_r(file: &mut [u16; 14], r: u64)
+    ensures { λ _. ⌜ OnFile Unit (tree.one (unaryAt (opOf r)) (wordOf r) (Register (rmOf r))) (now (file .entry)) tt (now (file .exit)) ⌝ }
+{
+    let word = word_of(r);
+    let n = rm_of(r);
+    let a = mach_registers::reg(word, file, n);
+    let x = calc_arith::one(unary_of(r), word, a, file[PSW]);
+    file[PSW] = x.psw;
+    mach_registers::set_reg(word, file, n, x.value);
+}
+
+// Kinds 21 and 22: BR near and short.
+pub fn br(file: &mut [u16; 14], r: u64)
+    ensures { λ _. ⌜ OnFile Unit (jump (dispOf r)) (now (file .entry)) tt (now (file .exit)) ⌝ }
+{
+    mach_jump::jump(file, disp_of(r));
+}
+
+// Kind 23: DBNZ.
+pub fn dbnz(file: &mut [u16; 14], r: u64)
+    ensures { λ _. ⌜ OnFile Unit (dbnzOf (dispOf r)) (now (file .entry)) tt (now (file .exit)) ⌝ }
+{
+    let cw = calc_word::minus16(file[CW], 1);
+    file[CW] = cw;
+    if cw != 0 {
+        mach_jump::jump(file, disp_of(r));
+    }
+}
+
+// The flags of TEST.
+pub fn test(file: &mut [u16; 14], word: bool, a: u16, b: u16)
+    ensures { λ _. ⌜ OnFile Unit (affect (tree.logical word (bitAnd a b) .column)) (now (file .entry)) tt (now (file .exit)) ⌝ }
+{
+    let x = calc_arith::logic(word, a & b, file[PSW]);
+    file[PSW] = x.psw;
+}
+
+// Kind 28: TEST of two registers.
+pub fn test_rr(file: &mut [u16; 14], r: u64)
+    ensures { λ _. ⌜ OnFile Unit (tree.test (wordOf r) (Register (rmOf r)) (Held (Register (regOf r)))) (now (file .entry)) tt (now (file .exit)) ⌝ }
+{
+    let word = word_of(r);
+    let a = mach_registers::reg(word, file, rm_of(r));
+    let b = mach_registers::reg(word, file, reg_of(r));
+    test(file, word, a, b);
+}
+
+// Kind 29: TEST of a register and an immediate.
+pub fn test_ri(file: &mut [u16; 14], r: u64)
+    ensures { λ _. ⌜ OnFile Unit (tree.test (wordOf r) (Register (rmOf r)) (Immediate (immOf r))) (now (file .entry)) tt (now (file .exit)) ⌝ }
+{
+    let word = word_of(r);
+    let a = mach_registers::reg(word, file, rm_of(r));
+    test(file, word, a, imm_of(r));
 }

@@ -13,9 +13,10 @@ use Rattle.sheet.specs.declared.Flagged.{Flagged}
 use Rattle.sheet.specs.declared.Operation.{Operation}
 use Rattle.sheet.specs.declared.Place.the-variants.{Register, Memory}
 use Rattle.sheet.specs.declared.Source.{Source}
-use Rattle.sheet.specs.declared.Source.the-variants.{Held}
+use Rattle.sheet.specs.declared.Source.the-variants.{Held, Immediate}
 use Rattle.sheet.specs.declared.Spot.{Spot}
 use Rattle.sheet.specs.declared.Spot.the-variants.{InRegister, InMemory}
+use Rattle.sheet.specs.declared.Unary.{Unary}
 use Rattle.sheet.specs.Width.{pick, modOf, add16, sub16}
 use Rattle.sheet.specs.Psw.{CY, flagOf}
 use Rattle.sheet.specs.Registers.{SP, SS, PC, PSW, fileOf, readReg}
@@ -24,8 +25,8 @@ use Rattle.sheet.specs.Act.{Act, pure}
 use Rattle.sheet.specs.Handler.{_⊕_}
 use Rattle.sheet.specs.FirstByte.{operationAt}
 use Rattle.sheet.specs.Operand.{offsetOf, baseOf, locate, fetch, deposit, valueAt, sourceValue, setReg}
-use Rattle.sheet.specs.Arithmetic.{Result, operate, conclude, two}
-use Rattle.sheet.specs.Transfer.{mov}
+use Rattle.sheet.specs.Arithmetic.{Result, unary, finish, operate, conclude, two, one}
+use Rattle.sheet.specs.Transfer.{mov, loadAcc, storeAcc}
 use Rattle.sheet.specs.Traps.{push, pop, popInto}
 use Rattle.sheet.specs.Stack.{pushRegister, popPlace}
 use Rattle.sheet.specs.Branch.{jump, pushPc, callNear, ret}
@@ -38,7 +39,7 @@ use Rattle.calc_arith.proofs.OperateLaws.{operate-ends}
 use Rattle.mach_memory.specs.Accesses.{Writes, Loads, Stores}
 use Rattle.mach_memory.proofs.Laws.{loads, stores}
 use Rattle.mach_stack.proofs.Laws.{push-is, pop-is}
-use Rattle.quick_place.specs.Packed.{opOf, wordOf, rmOf, regOf, dispOf, addressOf}
+use Rattle.quick_place.specs.Packed.{opOf, unaryAt, wordOf, rmOf, regOf, dispOf, immOf, addressOf}
 use Rattle.mach_tally.specs.Sums.{Free, Costs, Joins}
 use Rattle.quick_tally.specs.Packed.{busAt}
 use Rattle.mach_tally.proofs.Bounds.{within-access, within-memory}
@@ -46,7 +47,7 @@ use Rattle.quick_tally.proofs.Laws.{both-fit}
 use Rattle.quick_do.specs.Settle.{settle}
 use Rattle.quick_memory.specs.Settled.{Moved, Operated}
 
-located : (a : Address) (f : List ℕ) (g o : ℕ) → g ≡ baseOf (fileOf f) a → o ≡ offsetOf (fileOf f) a → OnFile Spot (locate (Memory a)) f (InMemory g o) f
+pub located : (a : Address) (f : List ℕ) (g o : ℕ) → g ≡ baseOf (fileOf f) a → o ≡ offsetOf (fileOf f) a → OnFile Spot (locate (Memory a)) f (InMemory g o) f
 unfolding locate
 located a f g o e q = rw (e, q) (file-seq _ file-registers file-pure)
 
@@ -58,6 +59,10 @@ fetched w a f ram rom g o v n e q h = memory-free _ (located a f g o e q) (h .at
 held : (w : Bool) (m v : ℕ) (f : List ℕ) → v ≡ readReg w (fileOf f) m → OnFile ℕ (sourceValue w (Held (Register m))) f v f
 unfolding sourceValue valueAt locate fetch
 held w m v f e = file-seq _ file-pure (file-reg w m e)
+
+given : (w : Bool) (v : ℕ) (f : List ℕ) → OnFile ℕ (sourceValue w (Immediate v)) f v f
+unfolding sourceValue
+given w v f = file-pure
 
 -- ---- MOV
 
@@ -72,10 +77,10 @@ unfolding mov deposit
 mov-store w s a f ram ram′ rom g o v n x e q h = memory-free _ x (memory-free _ (located a f g o e q) (h .at f rom))
 
 module _ (r : ℕ) (w : Bool) (f h ram ram′ rom : List ℕ) (g o n v : ℕ) (wide : w ≡ wordOf r) (at : g ≡ baseOf (fileOf f) (addressOf r)) (off : o ≡ offsetOf (fileOf f) (addressOf r)) where
-  pub mov-rm-is : (m : ℕ) → m ≡ regOf r → v ≡ readMem w ram rom g o → v < modOf w → OnFile Unit (setReg w m v) f tt h → Costs w o 0 (busAt n)
-      → OnMemory Unit (mov (wordOf r) (Register (regOf r)) (Held (Memory (addressOf r)))) f ram rom tt h ram (busAt n) 6
-  mov-rm-is m reg e l y cost =
-      rw (← wide, ← reg) (memory-at-most {t = 2} 6 (lit≤ tt) (mov-load w m (addressOf r) f h ram rom v (busAt n) (fetched w (addressOf r) f ram rom g o v (busAt n) at off (loads w ram rom g o v (busAt n) e l cost)) y))
+  pub load-is : (m : ℕ) → v ≡ readMem w ram rom g o → v < modOf w → OnFile Unit (setReg w m v) f tt h → Costs w o 0 (busAt n)
+      → OnMemory Unit (mov (wordOf r) (Register m) (Held (Memory (addressOf r)))) f ram rom tt h ram (busAt n) 6
+  load-is m e l y cost =
+      rw (← wide) (memory-at-most {t = 2} 6 (lit≤ tt) (mov-load w m (addressOf r) f h ram rom v (busAt n) (fetched w (addressOf r) f ram rom g o v (busAt n) at off (loads w ram rom g o v (busAt n) e l cost)) y))
 
   pub mov-to-is : Stores w ram g o v ram′ (busAt n) → Moved r v f ram rom ram′ n
   mov-to-is y = record { from = λ s x. rw (← wide) (memory-at-most {t = 2} 6 (lit≤ tt) (mov-store w s (addressOf r) f ram ram′ rom g o v (busAt n) (rw (← wide) at x) at off y)) }
@@ -84,6 +89,22 @@ module _ (r v : ℕ) (f ram ram′ rom : List ℕ) (n : ℕ) (x : Moved r v f ra
   pub mov-mr-is : (w : Bool) (m : ℕ) → w ≡ wordOf r → m ≡ regOf r → v ≡ readReg w (fileOf f) m
       → OnMemory Unit (mov (wordOf r) (Memory (addressOf r)) (Held (Register (regOf r)))) f ram rom tt f ram′ (busAt n) 6
   mov-mr-is w m wide reg e = rw (← reg) (x .from (Held (Register m)) (rw (← wide) (held w m v f e)))
+
+  pub store-acc-is : (w : Bool) → w ≡ wordOf r → v ≡ readReg w (fileOf f) 0 → OnMemory Unit (storeAcc (wordOf r) (addressOf r)) f ram rom tt f ram′ (busAt n) 6
+  unfolding storeAcc
+  store-acc-is w wide e = x .from (Held (Register 0)) (rw (← wide) (held w 0 v f e))
+
+  pub mov-mi-is : v ≡ immOf r → OnMemory Unit (mov (wordOf r) (Memory (addressOf r)) (Immediate (immOf r))) f ram rom tt f ram′ (busAt n) 6
+  mov-mi-is e = rw (← e) (x .from (Immediate v) (given (wordOf r) v f))
+
+module _ (r : ℕ) (f h ram rom : List ℕ) (n : ℕ) where
+  pub mov-rm-is : (m : ℕ) → m ≡ regOf r → OnMemory Unit (mov (wordOf r) (Register m) (Held (Memory (addressOf r)))) f ram rom tt h ram (busAt n) 6
+      → OnMemory Unit (mov (wordOf r) (Register (regOf r)) (Held (Memory (addressOf r)))) f ram rom tt h ram (busAt n) 6
+  mov-rm-is m reg x = rw (← reg) x
+
+  pub load-acc-is : OnMemory Unit (mov (wordOf r) (Register 0) (Held (Memory (addressOf r)))) f ram rom tt h ram (busAt n) 6 → OnMemory Unit (loadAcc (wordOf r) (addressOf r)) f ram rom tt h ram (busAt n) 6
+  unfolding loadAcc
+  load-acc-is x = x
 
 -- ---- operations
 
@@ -132,6 +153,31 @@ module _ (r v : ℕ) (f h ram ram′ rom : List ℕ) (n : ℕ) (x : Operated r v
   pub alu-mr-is : (w : Bool) (m : ℕ) → w ≡ wordOf r → m ≡ regOf r → v ≡ readReg w (fileOf f) m
       → OnMemory Unit (two (operationAt (opOf r)) (wordOf r) (Memory (addressOf r)) (Held (Register (regOf r)))) f ram rom tt h ram′ (busAt n) 6
   alu-mr-is w m wide reg e = rw (← reg) (x .from (Held (Register m)) (rw (← wide) (held w m v f e)))
+
+  pub alu-mi-is : v ≡ immOf r → OnMemory Unit (two (operationAt (opOf r)) (wordOf r) (Memory (addressOf r)) (Immediate (immOf r))) f ram rom tt h ram′ (busAt n) 6
+  alu-mi-is e = rw (← e) (x .from (Immediate v) (given (wordOf r) v f))
+
+-- flags first, then the value to memory
+pub finish-stores : (w : Bool) (g o : ℕ) (res : Result) (y : Flagged) (f ram ram′ rom : List ℕ) (n : Bus) → y ≡ flagged res (getD f PSW 0) → Stores w ram g o (y .value) ram′ n
+    → OnMemory Unit (finish w (InMemory g o) res) f ram rom tt (set f PSW (y .psw)) ram′ n 2
+unfolding finish deposit
+finish-stores w g o res y f ram ram′ rom n e h = memory-free _ (file-affect res f y e) (rw (value-is res f y e) at (h .at (set f PSW (y .psw)) rom))
+
+one-store : (op : Unary) (w : Bool) (a : Address) (f ram ram′ rom : List ℕ) (g o x : ℕ) (y : Flagged) (n k : Bus) → g ≡ baseOf (fileOf f) a → o ≡ offsetOf (fileOf f) a → Loads w ram rom g o x n
+    → y ≡ flagged (unary op w x) (getD f PSW 0) → Stores w ram g o (y .value) ram′ k → OnMemory Unit (one op w (Memory a)) f ram rom tt (set f PSW (y .psw)) ram′ (n ⊕ k) 4
+unfolding one fetch
+one-store op w a f ram ram′ rom g o x y n k e q l z h =
+    memory-free _ (located a f g o e q) (memory-seq _ {t = 2} {u = 2} (l .at f) (finish-stores w g o (unary op w x) y f ram ram′ rom k z h))
+
+pub one-m-is : (r : ℕ) (op : Unary) (w : Bool) (f ram ram′ rom : List ℕ) (g o v n k t : ℕ) (y : Flagged) → op ≡ unaryAt (opOf r) → w ≡ wordOf r → g ≡ baseOf (fileOf f) (addressOf r) → o ≡ offsetOf (fileOf f) (addressOf r)
+    → v ≡ readMem w ram rom g o → v < modOf w → Costs w o 0 (busAt n) → y ≡ flagged (unary op w v) (getD f PSW 0) → Stores w ram g o (y .value) ram′ (busAt k) → Joins (busAt n) (busAt k) (busAt t)
+    → OnMemory Unit (one (unaryAt (opOf r)) (wordOf r) (Memory (addressOf r))) f ram rom tt (set f PSW (y .psw)) ram′ (busAt t) 6
+one-m-is r op w f ram ram′ rom g o v n k t y known wide at off e l cost z h j =
+    rw (← known, ← wide, j .is)
+    (memory-at-most {t = 4} 6 (lit≤ tt) (one-store op w (addressOf r) f ram ram′ rom g o v y (busAt n) (busAt k) at off (loads w ram rom g o v (busAt n) e l cost) z h))
+
+pub store-fits : (w : Bool) (o n k g v : ℕ) (ram ram′ : List ℕ) → Costs w o 0 (busAt n) → Stores w ram g o v ram′ (busAt k) → busAt n .cycles + busAt k .cycles + (busAt n .dropped + busAt k .dropped) ≤ 4294967295
+store-fits w o n k g v ram ram′ x y = access-fits w o n k x (y .at ram ram)
 
 -- what is kept of the operation with a number
 concludes-at : (k : ℕ) (w : Bool) (s : Spot) (v : ℕ) → k < 8 → conclude (operationAt k) w s v ≡ pick (eqb k 7) (pure tt) (deposit w s v)

@@ -4,20 +4,20 @@ use mach_registers::PSW;
 use mach_registers::SP;
 use mach_registers::SS;
 ghost use Rattle.sheet.specs.declared.Place.the-variants.{Register, Memory};
-ghost use Rattle.sheet.specs.declared.Source.the-variants.{Held};
+ghost use Rattle.sheet.specs.declared.Source.the-variants.{Held, Immediate};
 ghost use Rattle.sheet.specs.declared.Spot.the-variants.{InMemory};
 ghost use Rattle.sheet.specs.FirstByte.{operationAt};
-ghost use Rattle.sheet.specs.Arithmetic.{two, conclude};
-ghost use Rattle.sheet.specs.Transfer.{mov};
+ghost use Rattle.sheet.specs.Arithmetic.{two, one, conclude};
+ghost use Rattle.sheet.specs.Transfer.{mov, loadAcc, storeAcc};
 ghost use Rattle.sheet.specs.Stack.{pushRegister, popPlace};
 ghost use Rattle.sheet.specs.Branch.{callNear, ret as retOf};
 ghost use Rattle.mach_tally.specs.Lent.{Does, Takes, Fills};
 ghost use Rattle.mach_memory.specs.Accesses.{Stores};
 ghost use Rattle.quick_tally.specs.Packed.{busAt};
-ghost use Rattle.quick_place.specs.Packed.{opOf, wordOf, rmOf, regOf, dispOf, addressOf};
+ghost use Rattle.quick_place.specs.Packed.{opOf, unaryAt, wordOf, rmOf, regOf, dispOf, immOf, addressOf};
 ghost use Rattle.quick_memory.specs.Settled.{Moved, Operated};
 
-fn store(word: bool, ram: &mut [u8], g: u16, o: u16, v: u16) -> u64
+pub fn store(word: bool, ram: &mut [u8], g: u16, o: u16, v: u16) -> u64
     ensures { λ n. ⌜ Stores word (now (ram .entry)) g o v (now (ram .exit)) (busAt n) ⌝ }
 {
     let dropped = mach_memory::write(word, ram, g, o, v);
@@ -26,16 +26,29 @@ fn store(word: bool, ram: &mut [u8], g: u16, o: u16, v: u16) -> u64
 
 // ---- MOV
 
-// MOV reg,mem.
-pub fn mov_rm(file: &mut [u16; 14], ram: &[u8], rom: &[u8], r: u64) -> u64
-    ensures { λ n. ⌜ Takes Unit (mov (wordOf r) (Register (regOf r)) (Held (Memory (addressOf r)))) file ram rom tt (busAt n) 6 ⌝ }
+fn load(file: &mut [u16; 14], ram: &[u8], rom: &[u8], r: u64, n: u8) -> u64
+    ensures { λ k. ⌜ Takes Unit (mov (wordOf r) (Register n) (Held (Memory (addressOf r)))) file ram rom tt (busAt k) 6 ⌝ }
 {
     let word = quick_do::word_of(r);
     let g = quick_do::base(file, r);
     let o = quick_do::offset(file, r);
     let v = mach_memory::read(word, ram, rom, g, o);
-    mach_registers::set_reg(word, file, quick_do::reg_of(r), v);
+    mach_registers::set_reg(word, file, n, v);
     quick_tally::of_access(word, o)
+}
+
+// MOV reg,mem.
+pub fn mov_rm(file: &mut [u16; 14], ram: &[u8], rom: &[u8], r: u64) -> u64
+    ensures { λ n. ⌜ Takes Unit (mov (wordOf r) (Register (regOf r)) (Held (Memory (addressOf r)))) file ram rom tt (busAt n) 6 ⌝ }
+{
+    load(file, ram, rom, r, quick_do::reg_of(r))
+}
+
+// MOV acc,dmem.
+pub fn load_acc(file: &mut [u16; 14], ram: &[u8], rom: &[u8], r: u64) -> u64
+    ensures { λ n. ⌜ Takes Unit (loadAcc (wordOf r) (addressOf r)) file ram rom tt (busAt n) 6 ⌝ }
+{
+    load(file, ram, rom, r, 0)
 }
 
 fn mov_to(file: &[u16; 14], ram: &mut [u8], rom: &[u8], r: u64, v: u16) -> u64
@@ -53,6 +66,21 @@ pub fn mov_mr(file: &[u16; 14], ram: &mut [u8], rom: &[u8], r: u64) -> u64
 {
     let v = mach_registers::reg(quick_do::word_of(r), file, quick_do::reg_of(r));
     mov_to(file, ram, rom, r, v)
+}
+
+// MOV dmem,acc.
+pub fn store_acc(file: &[u16; 14], ram: &mut [u8], rom: &[u8], r: u64) -> u64
+    ensures { λ n. ⌜ Fills Unit (storeAcc (wordOf r) (addressOf r)) file ram rom tt (busAt n) 6 ⌝ }
+{
+    let v = mach_registers::reg(quick_do::word_of(r), file, 0);
+    mov_to(file, ram, rom, r, v)
+}
+
+// MOV mem,imm.
+pub fn mov_mi(file: &[u16; 14], ram: &mut [u8], rom: &[u8], r: u64) -> u64
+    ensures { λ n. ⌜ Fills Unit (mov (wordOf r) (Memory (addressOf r)) (Immediate (immOf r))) file ram rom tt (busAt n) 6 ⌝ }
+{
+    mov_to(file, ram, rom, r, quick_do::imm_of(r))
 }
 
 // ---- operations
@@ -108,6 +136,27 @@ pub fn alu_mr(file: &mut [u16; 14], ram: &mut [u8], rom: &[u8], r: u64) -> u64
 {
     let b = mach_registers::reg(quick_do::word_of(r), file, quick_do::reg_of(r));
     alu_at(file, ram, rom, r, b)
+}
+
+// An operation on memory and an immediate.
+pub fn alu_mi(file: &mut [u16; 14], ram: &mut [u8], rom: &[u8], r: u64) -> u64
+    ensures { λ n. ⌜ Does (two (operationAt (opOf r)) (wordOf r) (Memory (addressOf r)) (Immediate (immOf r))) file ram rom (busAt n) 6 ⌝ }
+{
+    alu_at(file, ram, rom, r, quick_do::imm_of(r))
+}
+
+// INC, DEC, NOT, NEG of memory.
+pub fn one_m(file: &mut [u16; 14], ram: &mut [u8], rom: &[u8], r: u64) -> u64
+    ensures { λ n. ⌜ Does (one (unaryAt (opOf r)) (wordOf r) (Memory (addressOf r))) file ram rom (busAt n) 6 ⌝ }
+{
+    let word = quick_do::word_of(r);
+    let g = quick_do::base(file, r);
+    let o = quick_do::offset(file, r);
+    let a = mach_memory::read(word, ram, rom, g, o);
+    let x = calc_arith::one(quick_do::unary_of(r), word, a, file[PSW]);
+    file[PSW] = x.psw;
+    let n = quick_tally::of_access(word, o);
+    quick_tally::both(n, store(word, ram, g, o, x.value))
 }
 
 // ---- the stack and branches

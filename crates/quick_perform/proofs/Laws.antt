@@ -1,11 +1,13 @@
 -- What each return of the code comes to, over plain values.
-use Prim.Native.Nat.{ℕ, zero, suc, _+_, _≤_}
+use Prim.Native.Nat.{ℕ, zero, suc, _+_, _/_, _%_, _≤_}
 use mathlib.Core.Path.{_≡_, refl, _∙_}
-use mathlib.Core.Bool.{Bool, false}
+use mathlib.Core.Bool.{Bool, true, false, _&&_, true≢false}
 use mathlib.Core.List.{List, [], _∷_}
+use native.Mathlib.Decide.{ℕ-discrete}
 use native.Mathlib.Omega.{arith}
-use lib.Dec.{lit≤}
+use lib.Dec.{leb, lit≤}
 use lib.ListN.{getD, set, length}
+use borrow.Author.Tests.{le-leb, leb-false}
 use Rattle.sheet.specs.declared.Instr.{Instr}
 use Rattle.sheet.specs.declared.Instr.the-variants.{Controls}
 use Rattle.sheet.specs.declared.Control.the-variants.{Nop}
@@ -18,14 +20,15 @@ use Rattle.sheet.specs.Stack.{pushPlace, stack}
 use Rattle.sheet.specs.Branch.{branch, conditional}
 use Rattle.sheet.specs.Control.{control}
 use Rattle.sheet.specs.Arithmetic.{calculate}
+use Rattle.sheet.specs.Multiply.{multiply}
 use Rattle.sheet.specs.Execute.{computing, moving, operation, execute}
 use Rattle.sheet.specs.Contract.{OnFile, OnMemory}
 use Rattle.sheet.proofs.Lifted.{file-pure, file-seq, file-registers, file-set, memory-free, memory-last, memory-at-most, on-memory}
 use Rattle.quick_tally.specs.Packed.{busAt}
 use Rattle.quick_tally.proofs.Laws.{packed-none}
 use Rattle.quick_place.specs.Packed.{kindOf, sizeOf}
-use Rattle.quick_reading.specs.Readings.{readings, instrOf}
-use Rattle.quick_perform.specs.Trees.{trees}
+use Rattle.quick_pack.specs.Readings.{readings, further, rest, portReadings, atPort, groups, instrOf}
+use Rattle.quick_perform.specs.Trees.{trees, furtherTrees, restTrees, firstTree, furtherTree, restTree}
 
 -- ---- instructions and their trees, one by one
 
@@ -37,6 +40,14 @@ each : (r start : ℕ) → Does start (readings r) (trees r)
 unfolding readings operation computing calculate moving transfer stack pushPlace branch conditional control
 each r start = more refl (more refl (more refl (more refl (more refl (more refl (more refl (more refl (more refl (more refl (more refl (more refl (more refl none))))))))))))
 
+each-further : (r start : ℕ) → Does start (further r) (furtherTrees r)
+unfolding further operation computing calculate moving transfer branch conditional
+each-further r start = more refl (more refl (more refl (more refl (more refl (more refl (more refl (more refl (more refl (more refl (more refl (more refl (more refl (more refl none)))))))))))))
+
+each-rest : (r start : ℕ) → Does start (rest r) (restTrees r start)
+unfolding rest operation computing multiply
+each-rest r start = more refl (more refl (more refl (more refl (more refl none))))
+
 tree-at : {start : ℕ} {is : List Instr} {ts : List (Act Unit)} → Does start is ts → (k : ℕ) → operation (getD is k (Controls Nop)) start ≡ untrapped (getD ts k (pure tt))
 unfolding operation control
 tree-at none zero = refl
@@ -44,20 +55,7 @@ tree-at none (suc k) = refl
 tree-at (more e d) zero = e
 tree-at (more e d) (suc k) = tree-at d k
 
--- ---- the arms
-
-module _ (r k start : ℕ) (f g ram rom : List ℕ) (known : kindOf r ≡ k) where
-  pub on-file : OnFile Unit (getD (trees r) k (pure tt)) f tt g → OnMemory Bool (operation (instrOf r) start) f ram rom false g ram (busAt 0) 6
-  unfolding instrOf untrapped
-  on-file h = rw (known, tree-at (each r start) k, packed-none .is) (on-memory ram rom 6 (file-seq _ h file-pure))
-
-  pub in-memory : (ram′ : List ℕ) (n : ℕ) → OnMemory Unit (getD (trees r) k (pure tt)) f ram rom tt g ram′ (busAt n) 6 → OnMemory Bool (operation (instrOf r) start) f ram rom false g ram′ (busAt n) 6
-  unfolding instrOf untrapped
-  in-memory ram′ n h = rw (known, tree-at (each r start) k) (memory-last _ h file-pure)
-
--- no other kind does anything
-four-on : (k m : ℕ) → m ≤ k → (k ≡ m → ⊥) → (k ≡ m + 1 → ⊥) → (k ≡ m + 2 → ⊥) → (k ≡ m + 3 → ⊥) → m + 4 ≤ k
-four-on k m h a b c d = omega arith
+-- ---- the arms of a group
 
 past : {A : Type 0} (l : List A) (k : ℕ) (d : A) → length l ≤ k → getD l k d ≡ d
 past [] zero d h = refl
@@ -65,17 +63,115 @@ past [] (suc k) d h = refl
 past (a ∷ l) zero d h = absurd (omega arith)
 past (a ∷ l) (suc k) d h = past l k d (omega arith)
 
+four-on : (k m : ℕ) → m ≤ k → (k ≡ m → ⊥) → (k ≡ m + 1 → ⊥) → (k ≡ m + 2 → ⊥) → (k ≡ m + 3 → ⊥) → m + 4 ≤ k
+four-on k m h a b c d = omega arith
+
+module _ (r k : ℕ) (f g ram ram′ rom : List ℕ) (n : ℕ) (known : kindOf r % 16 ≡ k) where
+  pub first-file : OnFile Unit (getD (trees r) k (pure tt)) f tt g → OnMemory Unit (firstTree r) f ram rom tt g ram (busAt 0) 6
+  unfolding firstTree
+  first-file h = rw (known, packed-none .is) (on-memory ram rom 6 h)
+
+  pub first-memory : OnMemory Unit (getD (trees r) k (pure tt)) f ram rom tt g ram′ (busAt n) 6 → OnMemory Unit (firstTree r) f ram rom tt g ram′ (busAt n) 6
+  unfolding firstTree
+  first-memory h = rw known h
+
+  pub further-file : OnFile Unit (getD (furtherTrees r) k (pure tt)) f tt g → OnMemory Unit (furtherTree r) f ram rom tt g ram (busAt 0) 6
+  unfolding furtherTree
+  further-file h = rw (known, packed-none .is) (on-memory ram rom 6 h)
+
+  pub further-memory : OnMemory Unit (getD (furtherTrees r) k (pure tt)) f ram rom tt g ram′ (busAt n) 6 → OnMemory Unit (furtherTree r) f ram rom tt g ram′ (busAt n) 6
+  unfolding furtherTree
+  further-memory h = rw known h
+
+module _ (r k start : ℕ) (f g ram ram′ rom : List ℕ) (n : ℕ) (known : kindOf r % 16 ≡ k) where
+  pub rest-file : OnFile Unit (getD (restTrees r start) k (pure tt)) f tt g → OnMemory Unit (restTree r start) f ram rom tt g ram (busAt 0) 384
+  unfolding restTree
+  rest-file h = rw (known, packed-none .is) (on-memory ram rom 384 h)
+
+  pub rest-memory : OnMemory Unit (getD (restTrees r start) k (pure tt)) f ram rom tt g ram′ (busAt n) 384 → OnMemory Unit (restTree r start) f ram rom tt g ram′ (busAt n) 384
+  unfolding restTree
+  rest-memory h = rw known h
+
+-- no other kind does anything
 no-other : (r k : ℕ) → (k ≡ 1 → ⊥) → (k ≡ 2 → ⊥) → (k ≡ 3 → ⊥) → (k ≡ 4 → ⊥) → (k ≡ 5 → ⊥) → (k ≡ 6 → ⊥) → (k ≡ 7 → ⊥) → (k ≡ 8 → ⊥) → (k ≡ 9 → ⊥) → (k ≡ 10 → ⊥) → (k ≡ 11 → ⊥) → (k ≡ 12 → ⊥)
     → getD (trees r) k (pure tt) ≡ pure tt
 no-other r zero a b c d e f g h i j l m = refl
 no-other r (suc k) a b c d e f g h i j l m = past (trees r) (suc k) (pure tt) (four-on (suc k) 9 (four-on (suc k) 5 (four-on (suc k) 1 (omega arith) a b c d) e f g h) i j l m)
 
-pub kind-else : (r start : ℕ) (f ram rom : List ℕ) → (kindOf r ≡ 1 → ⊥) → (kindOf r ≡ 2 → ⊥) → (kindOf r ≡ 3 → ⊥) → (kindOf r ≡ 4 → ⊥) → (kindOf r ≡ 5 → ⊥) → (kindOf r ≡ 6 → ⊥) → (kindOf r ≡ 7 → ⊥) → (kindOf r ≡ 8 → ⊥)
-    → (kindOf r ≡ 9 → ⊥) → (kindOf r ≡ 10 → ⊥) → (kindOf r ≡ 11 → ⊥) → (kindOf r ≡ 12 → ⊥) → OnMemory Bool (operation (instrOf r) start) f ram rom false f ram (busAt 0) 6
-kind-else r start f ram rom a b c d e f′ g h i j l m = on-file r (kindOf r) start f f ram rom refl (rw (no-other r (kindOf r) a b c d e f′ g h i j l m) file-pure)
+two-on : (k m : ℕ) → m ≤ k → (k ≡ m → ⊥) → (k ≡ m + 1 → ⊥) → m + 2 ≤ k
+two-on k m h a b = omega arith
 
-pub performs : (r start next n : ℕ) (f g ram ram′ rom : List ℕ) → start ≡ getD f PC 0 → next ≡ add16 start (sizeOf r) → OnMemory Bool (operation (instrOf r) start) (set f PC next) ram rom false g ram′ (busAt n) 6
+no-further : (r k : ℕ) → (k ≡ 0 → ⊥) → (k ≡ 1 → ⊥) → (k ≡ 2 → ⊥) → (k ≡ 3 → ⊥) → (k ≡ 4 → ⊥) → (k ≡ 5 → ⊥) → (k ≡ 6 → ⊥) → (k ≡ 7 → ⊥) → (k ≡ 8 → ⊥) → (k ≡ 9 → ⊥) → (k ≡ 10 → ⊥) → (k ≡ 11 → ⊥) → (k ≡ 12 → ⊥) → (k ≡ 13 → ⊥)
+    → getD (furtherTrees r) k (pure tt) ≡ pure tt
+no-further r k z a b c d e f g h i j l m n = past (furtherTrees r) k (pure tt) (two-on k 12 (four-on k 8 (four-on k 4 (four-on k 0 (omega arith) z a b c) d e f g) h i j l) m n)
+
+module _ (r : ℕ) (f ram rom : List ℕ) where
+  pub first-else : (kindOf r % 16 ≡ 1 → ⊥) → (kindOf r % 16 ≡ 2 → ⊥) → (kindOf r % 16 ≡ 3 → ⊥) → (kindOf r % 16 ≡ 4 → ⊥) → (kindOf r % 16 ≡ 5 → ⊥) → (kindOf r % 16 ≡ 6 → ⊥) → (kindOf r % 16 ≡ 7 → ⊥) → (kindOf r % 16 ≡ 8 → ⊥)
+      → (kindOf r % 16 ≡ 9 → ⊥) → (kindOf r % 16 ≡ 10 → ⊥) → (kindOf r % 16 ≡ 11 → ⊥) → (kindOf r % 16 ≡ 12 → ⊥) → OnMemory Unit (firstTree r) f ram rom tt f ram (busAt 0) 6
+  first-else a b c d e f′ g h i j l m = first-file r (kindOf r % 16) f f ram ram rom 0 refl (rw (no-other r (kindOf r % 16) a b c d e f′ g h i j l m) file-pure)
+
+  pub further-else : (kindOf r % 16 ≡ 0 → ⊥) → (kindOf r % 16 ≡ 1 → ⊥) → (kindOf r % 16 ≡ 2 → ⊥) → (kindOf r % 16 ≡ 3 → ⊥) → (kindOf r % 16 ≡ 4 → ⊥) → (kindOf r % 16 ≡ 5 → ⊥) → (kindOf r % 16 ≡ 6 → ⊥) → (kindOf r % 16 ≡ 7 → ⊥)
+      → (kindOf r % 16 ≡ 8 → ⊥) → (kindOf r % 16 ≡ 9 → ⊥) → (kindOf r % 16 ≡ 10 → ⊥) → (kindOf r % 16 ≡ 11 → ⊥) → (kindOf r % 16 ≡ 12 → ⊥) → (kindOf r % 16 ≡ 13 → ⊥) → OnMemory Unit (furtherTree r) f ram rom tt f ram (busAt 0) 6
+  further-else z a b c d e f′ g h i j l m n = further-file r (kindOf r % 16) f f ram ram rom 0 refl (rw (no-further r (kindOf r % 16) z a b c d e f′ g h i j l m n) file-pure)
+
+three-on : (k : ℕ) → (k ≡ 0 → ⊥) → (k ≡ 1 → ⊥) → (k ≡ 2 → ⊥) → 3 ≤ k
+three-on k a b c = omega arith
+
+no-rest : (r start k : ℕ) → (k ≡ 0 → ⊥) → (k ≡ 1 → ⊥) → (k ≡ 2 → ⊥) → (k ≡ 3 → ⊥) → (k ≡ 4 → ⊥) → getD (restTrees r start) k (pure tt) ≡ pure tt
+no-rest r start k a b c d e = past (restTrees r start) k (pure tt) (two-on k 3 (three-on k a b c) d e)
+
+pub rest-else : (r start : ℕ) (f ram rom : List ℕ) → (kindOf r % 16 ≡ 0 → ⊥) → (kindOf r % 16 ≡ 1 → ⊥) → (kindOf r % 16 ≡ 2 → ⊥) → (kindOf r % 16 ≡ 3 → ⊥) → (kindOf r % 16 ≡ 4 → ⊥)
+    → OnMemory Unit (restTree r start) f ram rom tt f ram (busAt 0) 384
+rest-else r start f ram rom a b c d e = rest-file r (kindOf r % 16) start f f ram ram rom 0 refl (rw (no-rest r start (kindOf r % 16) a b c d e) file-pure)
+
+-- ---- the groups
+
+nothing-at : (k : ℕ) → getD [] k (Controls Nop) ≡ Controls Nop
+nothing-at zero = refl
+nothing-at (suc k) = refl
+
+module _ (r start : ℕ) (f g ram ram′ rom : List ℕ) (n : ℕ) where
+  pub in-first : kindOf r / 16 ≡ 0 → OnMemory Unit (firstTree r) f ram rom tt g ram′ (busAt n) 6 → OnMemory Bool (operation (instrOf r) start) f ram rom false g ram′ (busAt n) 384
+  unfolding instrOf firstTree untrapped
+  in-first known h = rw (known, tree-at (each r start) (kindOf r % 16)) (memory-at-most {t = 6} 384 (lit≤ tt) (memory-last _ h file-pure))
+
+  pub in-further : kindOf r / 16 ≡ 1 → OnMemory Unit (furtherTree r) f ram rom tt g ram′ (busAt n) 6 → OnMemory Bool (operation (instrOf r) start) f ram rom false g ram′ (busAt n) 384
+  unfolding instrOf furtherTree untrapped
+  in-further known h = rw (known, tree-at (each-further r start) (kindOf r % 16)) (memory-at-most {t = 6} 384 (lit≤ tt) (memory-last _ h file-pure))
+
+  pub in-rest : kindOf r / 16 ≡ 2 → OnMemory Unit (restTree r start) f ram rom tt g ram′ (busAt n) 384 → OnMemory Bool (operation (instrOf r) start) f ram rom false g ram′ (busAt n) 384
+  unfolding instrOf restTree untrapped
+  in-rest known h = rw (known, tree-at (each-rest r start) (kindOf r % 16)) (memory-last _ h file-pure)
+
+no-group : (r k : ℕ) → (k ≡ 0 → ⊥) → (k ≡ 1 → ⊥) → (k ≡ 2 → ⊥) → (k ≡ 3 → ⊥) → getD (groups r) k [] ≡ []
+no-group r k a b c d = past (groups r) k [] (four-on k 0 (omega arith) a b c d)
+
+-- behind those at a port
+behind : (k : ℕ) → (leb 48 k && leb k 50) ≡ false → k / 16 ≡ 3 → 3 ≤ k % 16
+behind k e h = go (leb k 50) refl
+  where
+    go : (b : Bool) → leb k 50 ≡ b → 3 ≤ k % 16
+    go true q = absurd (true≢false (rw (le-leb 48 k (omega arith), q) at e))
+    go false q = let l = leb-false k 50 q in omega arith
+
+nop-at : (r : ℕ) → (kindOf r / 16 ≡ 0 → ⊥) → (kindOf r / 16 ≡ 1 → ⊥) → (kindOf r / 16 ≡ 2 → ⊥) → atPort r ≡ false → instrOf r ≡ Controls Nop
+unfolding instrOf portReadings
+nop-at r a b c z = go (ℕ-discrete (kindOf r / 16) 3)
+  where
+    go : Dec (kindOf r / 16 ≡ 3) → instrOf r ≡ Controls Nop
+    go (yes e) = rw e (past (portReadings r) (kindOf r % 16) (Controls Nop) (behind (kindOf r) z e))
+    go (no d) = rw (no-group r (kindOf r / 16) a b c d) (nothing-at (kindOf r % 16))
+
+nop-is : (start : ℕ) (f ram rom : List ℕ) → OnMemory Bool (operation (Controls Nop) start) f ram rom false f ram (busAt 0) 384
+unfolding operation control untrapped
+nop-is start f ram rom = rw (packed-none .is) (on-memory ram rom 384 (file-seq _ file-pure file-pure))
+
+pub in-none : (r start : ℕ) (f ram rom : List ℕ) → (kindOf r / 16 ≡ 0 → ⊥) → (kindOf r / 16 ≡ 1 → ⊥) → (kindOf r / 16 ≡ 2 → ⊥) → atPort r ≡ false
+    → OnMemory Bool (operation (instrOf r) start) f ram rom false f ram (busAt 0) 384
+in-none r start f ram rom a b c z = rw (nop-at r a b c z) (nop-is start f ram rom)
+
+pub performs : (r start next n : ℕ) (f g ram ram′ rom : List ℕ) → start ≡ getD f PC 0 → next ≡ add16 start (sizeOf r) → OnMemory Bool (operation (instrOf r) start) (set f PC next) ram rom false g ram′ (busAt n) 384
     → OnMemory Bool (execute (instrOf r) (sizeOf r)) f ram rom false g ram′ (busAt n) 1020
 unfolding execute
 performs r start next n f g ram ram′ rom a d h =
-    memory-at-most {t = 6} 1020 (lit≤ tt) (memory-free _ file-registers (memory-free _ (file-set PC (add16 (getD f PC 0) (sizeOf r))) (rw (← a, ← d) h)))
+    memory-at-most {t = 384} 1020 (lit≤ tt) (memory-free _ file-registers (memory-free _ (file-set PC (add16 (getD f PC 0) (sizeOf r))) (rw (← a, ← d) h)))

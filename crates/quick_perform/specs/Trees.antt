@@ -1,15 +1,22 @@
 -- What the instruction of each kind of reading does.
-use Prim.Native.Nat.{ℕ}
+use Prim.Native.Nat.{ℕ, _%_}
 use mathlib.Core.List.{List, [], _∷_}
+use lib.ListN.{getD}
 use Rattle.sheet.specs.declared.Place.the-variants.{Register, Memory}
+use Rattle.sheet.specs.declared.Places.the-variants.{One}
 use Rattle.sheet.specs.declared.Source.the-variants.{Held, Immediate}
 use Rattle.sheet.specs.FirstByte.{operationAt}
 use Rattle.sheet.specs.Act.{Act, pure}
-use Rattle.sheet.specs.Arithmetic.{two}
-use Rattle.sheet.specs.Transfer.{mov}
+use Rattle.sheet.specs.Arithmetic.{two, one, test}
+use Rattle.sheet.specs.Block.{block}
+use Rattle.sheet.specs.Convert.{convert}
+use Rattle.sheet.specs.Decimal.{decimal}
+use Rattle.sheet.specs.Multiply.{mulu, mul}
+use Rattle.sheet.specs.Shift.{shift}
+use Rattle.sheet.specs.Transfer.{mov, loadAcc, storeAcc}
 use Rattle.sheet.specs.Stack.{pushRegister, popPlace}
-use Rattle.sheet.specs.Branch.{branchIf, callNear, ret}
-use Rattle.quick_place.specs.Packed.{opOf, condOf, wordOf, rmOf, regOf, dispOf, immOf, addressOf}
+use Rattle.sheet.specs.Branch.{jump, branchIf, dbnz, callNear, ret}
+use Rattle.quick_place.specs.Packed.{kindOf, opOf, unaryAt, shiftAt, convertAt, stringAt, primitiveAt, repeatAt, condOf, segOf, wordOf, rmOf, regOf, dispOf, immOf, addressOf}
 
 -- in the order of `readings`
 abbrev pub trees : ℕ → List (Act Unit)
@@ -28,3 +35,42 @@ trees r =
     ∷ callNear (dispOf r)
     ∷ ret
     ∷ []
+
+-- in the order of `further`
+abbrev pub furtherTrees : ℕ → List (Act Unit)
+furtherTrees r =
+    two (operationAt (opOf r)) (wordOf r) (Register (rmOf r)) (Immediate (immOf r))
+    ∷ two (operationAt (opOf r)) (wordOf r) (Memory (addressOf r)) (Immediate (immOf r))
+    ∷ mov (wordOf r) (Memory (addressOf r)) (Immediate (immOf r))
+    ∷ one (unaryAt (opOf r)) (wordOf r) (Register (rmOf r))
+    ∷ one (unaryAt (opOf r)) (wordOf r) (Memory (addressOf r))
+    ∷ jump (dispOf r)
+    ∷ jump (dispOf r)
+    ∷ dbnz (dispOf r)
+    ∷ shift (shiftAt (opOf r)) (wordOf r) (Register (rmOf r)) One
+    ∷ shift (shiftAt (opOf r)) (wordOf r) (Memory (addressOf r)) One
+    ∷ loadAcc (wordOf r) (addressOf r)
+    ∷ storeAcc (wordOf r) (addressOf r)
+    ∷ test (wordOf r) (Register (rmOf r)) (Held (Register (regOf r)))
+    ∷ test (wordOf r) (Register (rmOf r)) (Immediate (immOf r))
+    ∷ []
+
+-- in the order of `rest`
+abbrev pub restTrees : ℕ → ℕ → List (Act Unit)
+restTrees r start =
+    block (primitiveAt (opOf r)) (wordOf r) (segOf r) (repeatAt (regOf r)) start
+    ∷ decimal (stringAt (opOf r) (segOf r))
+    ∷ convert (convertAt (opOf r))
+    ∷ mulu (wordOf r) (Register (rmOf r))
+    ∷ mul (wordOf r) (Register (rmOf r))
+    ∷ []
+
+-- by the low digit of the kind
+unfoldable pub firstTree : ℕ → Act Unit
+firstTree r = getD (trees r) (kindOf r % 16) (pure tt)
+
+unfoldable pub furtherTree : ℕ → Act Unit
+furtherTree r = getD (furtherTrees r) (kindOf r % 16) (pure tt)
+
+unfoldable pub restTree : ℕ → ℕ → Act Unit
+restTree r start = getD (restTrees r start) (kindOf r % 16) (pure tt)

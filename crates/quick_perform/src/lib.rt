@@ -1,17 +1,19 @@
 // A reading done, by its kind.
 use mach_registers::PC;
+ghost use mathlib.Core.Path.{_≡_};
 ghost use mathlib.Core.Bool.{Bool, false};
 ghost use Rattle.sheet.specs.Execute.{operation, execute};
-ghost use Rattle.mach_tally.specs.Lent.{Gives};
+ghost use Rattle.mach_tally.specs.Lent.{Does, Gives};
 ghost use Rattle.quick_tally.specs.Packed.{busAt};
 ghost use Rattle.quick_place.specs.Packed.{sizeOf};
-ghost use Rattle.quick_reading.specs.Readings.{instrOf};
+ghost use Rattle.quick_pack.specs.Readings.{atPort, instrOf};
+ghost use Rattle.quick_perform.specs.Trees.{firstTree, furtherTree, restTree};
 
-// PC stands on the next instruction.
-fn operate(file: &mut [u16; 14], ram: &mut [u8], rom: &[u8], r: u64, start: u16) -> u64
-    ensures { λ n. ⌜ Gives Bool (operation (instrOf r) start) file ram rom false (busAt n) 6 ⌝ }
+// Kinds 0 to 15.
+fn first(file: &mut [u16; 14], ram: &mut [u8], rom: &[u8], r: u64) -> u64
+    ensures { λ n. ⌜ Does (firstTree r) file ram rom (busAt n) 6 ⌝ }
 {
-    match r % 256 {
+    match r % 256 % 16 {
         1 => {
             quick_do::alu_rr(file, r);
             0
@@ -40,8 +42,86 @@ fn operate(file: &mut [u16; 14], ram: &mut [u8], rom: &[u8], r: u64, start: u16)
     }
 }
 
+// Kinds 16 to 31.
+fn further(file: &mut [u16; 14], ram: &mut [u8], rom: &[u8], r: u64) -> u64
+    ensures { λ n. ⌜ Does (furtherTree r) file ram rom (busAt n) 6 ⌝ }
+{
+    match r % 256 % 16 {
+        0 => {
+            quick_do::alu_ri(file, r);
+            0
+        }
+        1 => quick_memory::alu_mi(file, ram, rom, r),
+        2 => quick_memory::mov_mi(file, ram, rom, r),
+        3 => {
+            quick_do::one_r(file, r);
+            0
+        }
+        4 => quick_memory::one_m(file, ram, rom, r),
+        5 => {
+            quick_do::br(file, r);
+            0
+        }
+        6 => {
+            quick_do::br(file, r);
+            0
+        }
+        7 => {
+            quick_do::dbnz(file, r);
+            0
+        }
+        8 => {
+            quick_shift::one_r(file, r);
+            0
+        }
+        9 => quick_shift::one_m(file, ram, rom, r),
+        10 => quick_memory::load_acc(file, ram, rom, r),
+        11 => quick_memory::store_acc(file, ram, rom, r),
+        12 => {
+            quick_do::test_rr(file, r);
+            0
+        }
+        13 => {
+            quick_do::test_ri(file, r);
+            0
+        }
+        _ => 0,
+    }
+}
+
+// Kinds 32 to 47.
+fn rest(file: &mut [u16; 14], ram: &mut [u8], rom: &[u8], r: u64, start: u16) -> u64
+    ensures { λ n. ⌜ Does (restTree r start) file ram rom (busAt n) 384 ⌝ }
+{
+    match r % 256 % 16 {
+        0 => quick_rest::block(file, ram, rom, r, start),
+        1 => quick_rest::string(file, ram, rom, r),
+        2 => {
+            quick_rest::convert(file, r);
+            0
+        }
+        3 => quick_rest::mulu(file, ram, rom, r),
+        4 => quick_rest::mul(file, ram, rom, r),
+        _ => 0,
+    }
+}
+
+// PC stands on the next instruction.
+fn operate(file: &mut [u16; 14], ram: &mut [u8], rom: &[u8], r: u64, start: u16) -> u64
+    requires { ⌜ atPort r ≡ false ⌝ }
+    ensures { λ n. ⌜ Gives Bool (operation (instrOf r) start) file ram rom false (busAt n) 384 ⌝ }
+{
+    match r % 256 / 16 {
+        0 => first(file, ram, rom, r),
+        1 => further(file, ram, rom, r),
+        2 => rest(file, ram, rom, r, start),
+        _ => 0,
+    }
+}
+
 // A reading done, with PC moved past it.
 pub fn perform(file: &mut [u16; 14], ram: &mut [u8], rom: &[u8], r: u64) -> u64
+    requires { ⌜ atPort r ≡ false ⌝ }
     ensures { λ n. ⌜ Gives Bool (execute (instrOf r) (sizeOf r)) file ram rom false (busAt n) 1020 ⌝ }
 {
     let start = file[PC];

@@ -1,25 +1,32 @@
--- A window of code bytes as one number, the fields of a reading as one number, and an address among them.
-use Prim.Native.Nat.{ℕ, zero, suc, _+_, _*_, _/_, _%_, _≤_, _<_}
+-- A window of code bytes as one number, and the fields of a reading as one number, an address and a place among them.
+use Prim.Native.Nat.{ℕ, zero, suc, _+_, _*_, _/_, _%_, _≤_}
 use mathlib.Core.Path.{_≡_}
 use mathlib.Core.Bool.{Bool}
-use lib.Dec.{eqb, ltb}
+use mathlib.Core.List.{[], _∷_}
+use lib.Dec.{eqb}
+use lib.ListN.{getD}
 use Rattle.sheet.specs.declared.Address.{Address}
 use Rattle.sheet.specs.declared.Address.the-variants.{Formed, Direct}
-use Rattle.sheet.specs.declared.Override.the-variants.{Usual, Named}
-use Rattle.sheet.specs.declared.Prefixes.{Prefixes}
-use Rattle.sheet.specs.declared.Repeat.the-variants.{Once}
+use Rattle.sheet.specs.declared.Convert.{Convert}
+use Rattle.sheet.specs.declared.Convert.the-variants.{Adjba, Adj4a, Adjbs, Adj4s, Cvtbd, Cvtdb, Cvtbw, Cvtwl}
+use Rattle.sheet.specs.declared.Decimal.{Decimal}
+use Rattle.sheet.specs.declared.Decimal.the-variants.{Add4s, Sub4s, Cmp4s}
+use Rattle.sheet.specs.declared.Place.{Place}
+use Rattle.sheet.specs.declared.Place.the-variants.{Register, Memory}
+use Rattle.sheet.specs.declared.Primitive.{Primitive}
+use Rattle.sheet.specs.declared.Primitive.the-variants.{Movbk, Cmpbk, Cmpm, Ldm, Stm}
+use Rattle.sheet.specs.declared.Repeat.{Repeat}
+use Rattle.sheet.specs.declared.Repeat.the-variants.{Once, WhileZ, WhileNotZ, WhileCy, WhileNotCy}
+use Rattle.sheet.specs.declared.Shift.{Shift}
+use Rattle.sheet.specs.declared.Shift.the-variants.{Rol, Ror, Rolc, Rorc, Shl, Shr, Shra}
+use Rattle.sheet.specs.declared.Unary.{Unary}
+use Rattle.sheet.specs.declared.Unary.the-variants.{Inc, Dec, Not, Neg}
 use Rattle.sheet.specs.Width.{pick, odd}
-use Rattle.sheet.specs.Encoding.{modField, memField, address}
-use Rattle.code_answer.specs.Answer.{Takes}
 
 -- the bytes of a window, the lowest first
 unfoldable pub byteOf : ℕ → ℕ → ℕ
 byteOf w zero = w % 256
 byteOf w (suc i) = byteOf (w / 256) i
-
--- the mod-reg-mem byte, where it is the second
-abbrev pub modRegMem : ℕ → ℕ
-modRegMem w = w / 256 % 256
 
 -- ---- the fields of a reading
 
@@ -54,6 +61,26 @@ dispOf r = r / 4294967296 % 65536
 abbrev pub immOf : ℕ → ℕ
 immOf r = r / 281474976710656
 
+-- what the field of the operation says by its number
+unfoldable pub unaryAt : ℕ → Unary
+unaryAt n = getD (Inc ∷ Dec ∷ Not ∷ Neg ∷ []) n Inc
+
+unfoldable pub shiftAt : ℕ → Shift
+shiftAt n = getD (Rol ∷ Ror ∷ Rolc ∷ Rorc ∷ Shl ∷ Shr ∷ Shra ∷ []) n Rol
+
+unfoldable pub convertAt : ℕ → Convert
+convertAt n = getD (Adjba ∷ Adj4a ∷ Adjbs ∷ Adj4s ∷ Cvtbd ∷ Cvtdb ∷ Cvtbw ∷ Cvtwl ∷ []) n Adjba
+
+unfoldable pub stringAt : ℕ → ℕ → Decimal
+stringAt n seg = getD (Add4s seg ∷ Sub4s seg ∷ Cmp4s seg ∷ []) n (Add4s seg)
+
+unfoldable pub primitiveAt : ℕ → Primitive
+primitiveAt n = getD (Movbk ∷ Cmpbk ∷ Cmpm ∷ Ldm ∷ Stm ∷ []) n Movbk
+
+-- and the field of the register, of a block
+unfoldable pub repeatAt : ℕ → Repeat
+repeatAt n = getD (Once ∷ WhileZ ∷ WhileNotZ ∷ WhileCy ∷ WhileNotCy ∷ []) n Once
+
 -- ---- addresses
 
 unfoldable pub addressAt : ℕ → ℕ → ℕ → Address
@@ -62,19 +89,33 @@ addressAt rm seg disp = pick (eqb rm 8) (Direct seg disp) (Formed seg rm disp)
 abbrev pub addressOf : ℕ → Address
 addressOf r = addressAt (rmOf r) (segOf r) (dispOf r)
 
--- 0 to 3 name a segment in a prefix; other numbers stand for no prefix
-unfoldable pub prefixesOf : ℕ → Prefixes
-prefixesOf s = record { seg = pick (ltb s 4) (Named s) Usual; repeat = Once }
+-- ---- readings that are made of fields
 
--- what the second byte of a window and those after it name, unless it is a register: p has the fields rm, seg and disp, and the size
-pub record Addresses (s w p : ℕ) : Type 0 where
-  pub size : ℕ
-  pub rm : ℕ
-  pub seg : ℕ
-  pub disp : ℕ
-  pub short : size ≤ 4
-  pub form : rm ≤ 8
-  pub segment : seg ≤ 3
-  pub offset : disp < 65536
-  pub packed : p ≡ 256 * size + 4096 * rm + 16777216 * seg + 4294967296 * disp
-  pub takes : Takes Address (address (prefixesOf s) (modField (modRegMem w)) (memField (modRegMem w))) (byteOf w) 2 (addressAt rm seg disp) size 2
+pub record Fields (r kind size rm reg op seg : ℕ) (word : Bool) (disp imm : ℕ) : Type 0 where
+  pub kind-is : kindOf r ≡ kind
+  pub size-is : sizeOf r ≡ size
+  pub rm-is : rmOf r ≡ rm
+  pub reg-is : regOf r ≡ reg
+  pub op-is : opOf r ≡ op % 8
+  pub cond-is : condOf r ≡ op
+  pub seg-is : segOf r ≡ seg
+  pub word-is : wordOf r ≡ word
+  pub disp-is : dispOf r ≡ disp
+  pub imm-is : immOf r ≡ imm
+
+-- r is 0 where a field is too large or the window is too short
+pub data Joined (kind size rm reg op seg : ℕ) (word : Bool) (disp imm r : ℕ) : Type 0 where
+  unjoined : r ≡ 0 → Joined kind size rm reg op seg word disp imm r
+  joined : size ≤ 8 → Fields r kind size rm reg op seg word disp imm → Joined kind size rm reg op seg word disp imm r
+
+-- the same where an address gives three of the fields
+pub data Located (a : Address) (kind size reg op : ℕ) (word : Bool) (imm r : ℕ) : Type 0 where
+  unlocated : r ≡ 0 → Located a kind size reg op word imm r
+  located : (rm seg disp : ℕ) → a ≡ addressAt rm seg disp → size ≤ 8 → Fields r kind size rm reg op seg word disp imm → Located a kind size reg op word imm r
+
+-- the same where a place gives them, which is a register or in memory
+pub data Placed (p : Place) (held stored size reg op : ℕ) (word : Bool) (imm r : ℕ) : Type 0 where
+  unplaced : r ≡ 0 → Placed p held stored size reg op word imm r
+  register : (rm : ℕ) → p ≡ Register rm → size ≤ 8 → Fields r held size rm reg op 0 word 0 imm → Placed p held stored size reg op word imm r
+  memory : (rm seg disp : ℕ) → p ≡ Memory (addressAt rm seg disp) → size ≤ 8 → Fields r stored size rm reg op seg word disp imm
+      → Placed p held stored size reg op word imm r

@@ -1,51 +1,18 @@
--- What a reading says: the instruction of a packed number, and how it comes from a window.
-use Prim.Native.Nat.{ℕ, zero, suc, _+_, _*_, _/_, _%_, _≤_, _<_}
+-- How a reading comes from a window, and a memo of readings.
+use Prim.Native.Nat.{ℕ, _+_, _*_, _/_, _%_, _≤_, _<_}
 use mathlib.Core.Path.{_≡_}
 use mathlib.Core.List.{List, [], _∷_}
-use mathlib.Core.Option.{none}
 use lib.ListN.{getD, length}
-use Rattle.sheet.specs.declared.Instr.{Instr}
-use Rattle.sheet.specs.declared.Instr.the-variants.{Controls}
-use Rattle.sheet.specs.declared.Control.the-variants.{Nop}
-use Rattle.sheet.specs.declared.Place.the-variants.{Register, Memory}
-use Rattle.sheet.specs.declared.Source.the-variants.{Held, Immediate}
-use Rattle.sheet.specs.declared.Arithmetic.the-variants.{Two}
-use Rattle.sheet.specs.declared.Transfer.the-variants.{Mov}
-use Rattle.sheet.specs.declared.Stack.the-variants.{Push, Pop}
-use Rattle.sheet.specs.declared.Branch.the-variants.{CallNear, Ret}
-use Rattle.sheet.specs.declared.Conditional.the-variants.{If}
-use Rattle.sheet.specs.Groups.{Transfers, Calculates, Stacks, Branches, Tests}
-use Rattle.sheet.specs.Encoding.{prefixOf}
-use Rattle.sheet.specs.FirstByte.{instruction, operationAt, firstBytes}
+use Rattle.sheet.specs.FirstByte.{instruction}
 use Rattle.code_answer.specs.declared.Decoded.the-variants.{Known}
-use Rattle.code_answer.specs.Answer.{Decodes, Names}
-use Rattle.quick_place.specs.Packed.{byteOf, kindOf, sizeOf, rmOf, regOf, opOf, condOf, wordOf, dispOf, immOf, addressOf, prefixesOf}
+use Rattle.code_answer.specs.Answer.{Decodes}
+use Rattle.quick_place.specs.Packed.{byteOf, sizeOf}
+use Rattle.quick_pack.specs.Readings.{instrOf}
 
--- by the kind: an operation on two registers, on a register and memory, on memory and a register; MOV of the same three, and of an immediate; PUSH, POP, branches
-unfoldable pub readings : ℕ → List Instr
-readings r =
-    Controls Nop
-    ∷ Calculates (Two (operationAt (opOf r)) (wordOf r) (Register (rmOf r)) (Held (Register (regOf r))))
-    ∷ Calculates (Two (operationAt (opOf r)) (wordOf r) (Register (regOf r)) (Held (Memory (addressOf r))))
-    ∷ Calculates (Two (operationAt (opOf r)) (wordOf r) (Memory (addressOf r)) (Held (Register (regOf r))))
-    ∷ Transfers (Mov (wordOf r) (Register (rmOf r)) (Held (Register (regOf r))))
-    ∷ Transfers (Mov (wordOf r) (Register (regOf r)) (Held (Memory (addressOf r))))
-    ∷ Transfers (Mov (wordOf r) (Memory (addressOf r)) (Held (Register (regOf r))))
-    ∷ Transfers (Mov (wordOf r) (Register (rmOf r)) (Immediate (immOf r)))
-    ∷ Stacks (Push (Register (rmOf r)))
-    ∷ Stacks (Pop (Register (rmOf r)))
-    ∷ Tests (If (condOf r) (dispOf r))
-    ∷ Branches (CallNear (dispOf r))
-    ∷ Branches Ret
-    ∷ []
-
-unfoldable pub instrOf : ℕ → Instr
-instrOf r = getD (readings r) (kindOf r) (Controls Nop)
-
--- r is 0, and says nothing; or it is what the first byte names, after the prefix that s stands for
-pub data First (s w r : ℕ) : Type 0 where
-  other : r ≡ 0 → First s w r
-  first : sizeOf r ≤ 6 → prefixOf (w % 256) ≡ none → Names (firstBytes (prefixesOf s)) (w % 256) (byteOf w) 1 (Known (instrOf r) (sizeOf r)) → First s w r
+-- the bytes of a window, in their order
+unfoldable pub bytesOf : ℕ → List ℕ
+bytesOf w =
+    w % 256 ∷ w / 256 % 256 ∷ w / 65536 % 256 ∷ w / 16777216 % 256 ∷ w / 4294967296 % 256 ∷ w / 1099511627776 % 256 ∷ w / 281474976710656 % 256 ∷ w / 72057594037927936 % 256 ∷ []
 
 -- r is 0, and says nothing; or it is the instruction that the window begins with
 pub data Means (w r : ℕ) : Type 0 where

@@ -21,7 +21,8 @@ use Rattle.engine.proofs.RunLaws.{Continues, continues-none, continues-more, ru
 use Rattle.quick_tally.specs.Packed.{busAt}
 use Rattle.quick_reading.specs.Readings.{general, Remembers}
 use Rattle.quick_stand.specs.Stand.{progressAt, marksAt, Holds}
-use Rattle.quick_step.specs.Turns.{numberOf, costOf, Turns}
+use Rattle.quick_port.specs.Reached.{numberOf, costOf}
+use Rattle.quick_step.specs.Turns.{Turns}
 
 -- ---- nothing is remembered at first
 

@@ -53,3 +53,13 @@ keeps p p′ m q h l w x (y, y′) (z, z′) (u, u′) k e = rw (e, in-order p (
 
 pub lent-zeros : (p : List ℕ) → p ≡ replicate 4 0 → Lent p
 lent-zeros p e = rw e (record { long = refl; small = lit≤ tt })
+
+-- a count put down, and the marks cleared
+pub counted : (p p′ : List ℕ) (c : ℕ) → Lent p → c ≤ 4294967295 → p′ ≡ set (set p 2 c) 3 0 → Holds p′ (marksOf false false false) (progressOf (getD p 0 0) (getD p 1 0) c)
+unfolding progressAt marksAt
+counted [] p′ c h k q = absurd (let l = h .long in omega arith)
+counted (w ∷ []) p′ c h k q = absurd (let l = h .long in omega arith)
+counted (w ∷ x ∷ []) p′ c h k q = absurd (let l = h .long in omega arith)
+counted (w ∷ x ∷ y ∷ []) p′ c h k q = absurd (let l = h .long in omega arith)
+counted (w ∷ x ∷ y ∷ z ∷ []) p′ c h k q = rw q (record { marks = refl; progress = refl; lent = record { long = refl; small = k } })
+counted (w ∷ x ∷ y ∷ z ∷ u ∷ p) p′ c h k q = absurd (let l = h .long in omega arith)

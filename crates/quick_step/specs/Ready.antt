@@ -11,7 +11,7 @@ use Rattle.sheet.specs.Step.{codeByte}
 use Rattle.code_answer.specs.declared.Decoded.the-variants.{Known}
 use Rattle.code_answer.specs.Answer.{Decodes}
 use Rattle.quick_place.specs.Packed.{sizeOf}
-use Rattle.quick_reading.specs.Readings.{instrOf}
+use Rattle.quick_pack.specs.Readings.{instrOf}
 use Rattle.quick_stand.specs.Stand.{marksAt}
 
 -- unless it is 0, the machine is awake, not traced, in native mode and without the permission, and r is the instruction at PS:PC

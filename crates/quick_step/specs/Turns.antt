@@ -1,20 +1,11 @@
 -- What a turn of the run comes to, as one number: that of a refusal, or 256 and what its accesses come to.
-use Prim.Native.Nat.{ℕ, _-_}
+use Prim.Native.Nat.{ℕ}
 use mathlib.Core.List.{List}
 use lib.Dec.{leb}
-use Rattle.sheet.specs.declared.Bus.{Bus}
-use Rattle.sheet.specs.Width.{pick}
 use Rattle.sheet.specs.World.{stateOf}
-use Rattle.sheet.specs.Handler.{nothing}
 use Rattle.engine.specs.Steps.{Advances}
-use Rattle.quick_tally.specs.Packed.{busAt}
 use Rattle.quick_stand.specs.Stand.{progressAt, marksAt, Lent}
-
-unfoldable pub numberOf : ℕ → ℕ
-numberOf x = pick (leb 256 x) 0 x
-
-unfoldable pub costOf : ℕ → Bus
-costOf x = pick (leb 256 x) (busAt (x - 256)) nothing
+use Rattle.quick_port.specs.Reached.{numberOf, costOf}
 
 pub record Turns (f p ram rom tape log : List ℕ) (x : ℕ) (f′ p′ ram′ log′ : List ℕ) : Type 0 where
   pub lent : Lent p′

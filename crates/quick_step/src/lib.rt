@@ -2,9 +2,11 @@
 use mach_registers::PC;
 use mach_registers::PS;
 use mach_registers::PSW;
-ghost use mathlib.Core.Bool.{false};
+ghost use mathlib.Core.Path.{_≡_};
+ghost use mathlib.Core.Bool.{true, false};
 ghost use Rattle.sheet.specs.World.{marksOf};
 ghost use Rattle.step_one.specs.Proceeds.{begunAt};
+ghost use Rattle.quick_pack.specs.Readings.{atPort};
 ghost use Rattle.quick_reading.specs.Readings.{Remembers};
 ghost use Rattle.quick_stand.specs.Stand.{progressAt, Lent, Holds};
 ghost use Rattle.quick_step.specs.Ready.{Ready};
@@ -37,6 +39,29 @@ fn begin(stand: &mut [usize; 4])
     let count = step_one::count_on(stand[2] as u32);
     stand[2] = count as usize;
     stand[3] = 0;
+}
+
+// A reading at a port. A refusal puts PC back, and has changed nothing else.
+fn reach(
+    file: &mut [u16; 14],
+    stand: &mut [usize; 4],
+    ram: &mut [u8],
+    rom: &[u8],
+    tape: &[u8],
+    log: &mut [u8],
+    r: u64,
+) -> u64
+    requires { ⌜ Lent (now stand) × Ready (now file) (now stand) (now ram) (now rom) r × (r ≡ 0 → ⊥) × (atPort r ≡ true) ⌝ }
+    ensures { λ x. ⌜ Turns (now (file .entry)) (now (stand .entry)) (now (ram .entry)) (now (rom .entry)) (now (tape .entry)) (now (log .entry)) x (now (file .exit)) (now (stand .exit)) (now (ram .exit)) (now (log .exit)) ⌝ }
+{
+    let count = step_one::count_on(stand[2] as u32);
+    let start = file[PC];
+    file[PC] = calc_word::plus16(start, (r / 256 % 16) as u16);
+    let x = quick_stream::access(file, ram, rom, tape, log, stand, count, r, start);
+    if x < 256 {
+        file[PC] = start;
+    }
+    x
 }
 
 fn general(
@@ -78,6 +103,9 @@ pub fn turn(
 {
     let r = next(file, stand, memo, ram, rom);
     if r != 0 {
+        if quick_pack::at_port(r) {
+            return reach(file, stand, ram, rom, tape, log, r);
+        }
         let n = quick_perform::perform(file, ram, rom, r);
         begin(stand);
         return 256 + n;

@@ -7,14 +7,4 @@ returns : tie.Need-returns
 returns c = search (mov-rm-is, needs)
 
 pub mov-rm-spec : {M : Type 1} → statement M
-mov-rm-spec =
-    tie.close
-    (tie.spec
-    (λ c κs. search needs)
-    (λ c κs. search needs)
-    (λ c κs. search needs)
-    (λ c κs. search needs)
-    (λ c κs. search needs)
-    (λ c κs. search needs)
-    (λ c κs. search needs)
-    returns)
+mov-rm-spec = tie.close (tie.spec (λ c κs. search needs) (λ c κs. search needs) returns)

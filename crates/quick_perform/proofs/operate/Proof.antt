@@ -1,46 +1,19 @@
-use Rattle.quick_perform.proofs.Laws.{in-memory, kind-else, on-file}
+use Rattle.quick_perform.proofs.Laws.{in-first, in-further, in-rest, in-none}
 use borrow.Author.Needs.{needs}
 use Rattle.quick_perform.proofs.operate.Statement.{statement}
 use Rattle.quick_perform.proofs.operate.Tie as tie
 
 returns : tie.Need-returns
-returns c = search (on-file, needs)
+returns c = search (in-first, needs)
 
 returns-2 : tie.Need-returns-2
-returns-2 c = search (in-memory, needs)
+returns-2 c = search (in-further, needs)
 
 returns-3 : tie.Need-returns-3
-returns-3 c = search (in-memory, needs)
+returns-3 c = search (in-rest, needs)
 
 returns-4 : tie.Need-returns-4
-returns-4 c = search (on-file, needs)
-
-returns-5 : tie.Need-returns-5
-returns-5 c = search (in-memory, needs)
-
-returns-6 : tie.Need-returns-6
-returns-6 c = search (in-memory, needs)
-
-returns-7 : tie.Need-returns-7
-returns-7 c = search (on-file, needs)
-
-returns-8 : tie.Need-returns-8
-returns-8 c = search (in-memory, needs)
-
-returns-9 : tie.Need-returns-9
-returns-9 c = search (in-memory, needs)
-
-returns-10 : tie.Need-returns-10
-returns-10 c = search (on-file, needs)
-
-returns-11 : tie.Need-returns-11
-returns-11 c = search (in-memory, needs)
-
-returns-12 : tie.Need-returns-12
-returns-12 c = search (in-memory, needs)
-
-returns-13 : tie.Need-returns-13
-returns-13 c = search (kind-else, needs)
+returns-4 c = search (in-none, needs)
 
 pub operate-spec : {M : Type 1} → statement M
 operate-spec =
@@ -49,33 +22,10 @@ operate-spec =
     (λ c κs. search needs)
     (λ c κs. search needs)
     (λ c κs. search needs)
-    (λ c κs. search needs)
-    (λ c κs. search needs)
-    (λ c κs. search needs)
-    (λ c κs. search needs)
-    (λ c κs. search needs)
-    (λ c κs. search needs)
-    (λ c κs. search needs)
-    (λ c κs. search needs)
-    (λ c κs. search needs)
+    (λ c. search needs)
     returns
     (λ c. search needs)
     returns-2
     (λ c. search needs)
     returns-3
-    returns-4
-    (λ c. search needs)
-    returns-5
-    (λ c. search needs)
-    returns-6
-    returns-7
-    (λ c. search needs)
-    returns-8
-    (λ c. search needs)
-    returns-9
-    returns-10
-    (λ c. search needs)
-    returns-11
-    (λ c. search needs)
-    returns-12
-    returns-13)
+    returns-4)

@@ -1,0 +1,39 @@
+use Rattle.quick_pack.proofs.Laws.{string-is}
+use Rattle.quick_pack.specs.Readings.{none}
+use mathlib.Core.Path.{refl}
+use borrow.Author.Needs.{needs}
+use Rattle.quick_pack.proofs.decimal.Statement.{statement}
+use Rattle.quick_pack.proofs.decimal.Tie as tie
+
+returns : tie.Need-returns
+returns c = search (string-is, needs)
+
+returns-2 : tie.Need-returns-2
+returns-2 c = search (string-is, needs)
+
+returns-3 : tie.Need-returns-3
+returns-3 c = search (string-is, needs)
+
+returns-4 : tie.Need-returns-4
+returns-4 c = none refl
+
+returns-5 : tie.Need-returns-5
+returns-5 c = none refl
+
+pub decimal-spec : {M : Type 1} → statement M
+decimal-spec =
+    tie.close
+    (tie.spec
+    (λ c. search needs)
+    (λ c κs. search needs)
+    (λ c. search needs)
+    (λ c κs. search needs)
+    (λ c. search needs)
+    (λ c κs. search needs)
+    (λ c. search needs)
+    (λ c. search needs)
+    returns
+    returns-2
+    returns-3
+    returns-4
+    returns-5)

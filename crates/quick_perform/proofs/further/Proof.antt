@@ -1,0 +1,89 @@
+use Rattle.quick_perform.proofs.Laws.{further-file, further-memory, further-else}
+use borrow.Author.Needs.{needs}
+use Rattle.quick_perform.proofs.further.Statement.{statement}
+use Rattle.quick_perform.proofs.further.Tie as tie
+
+returns : tie.Need-returns
+returns c = search (further-file, needs)
+
+returns-2 : tie.Need-returns-2
+returns-2 c = search (further-memory, needs)
+
+returns-3 : tie.Need-returns-3
+returns-3 c = search (further-memory, needs)
+
+returns-4 : tie.Need-returns-4
+returns-4 c = search (further-file, needs)
+
+returns-5 : tie.Need-returns-5
+returns-5 c = search (further-memory, needs)
+
+returns-6 : tie.Need-returns-6
+returns-6 c = search (further-file, needs)
+
+returns-7 : tie.Need-returns-7
+returns-7 c = search (further-file, needs)
+
+returns-8 : tie.Need-returns-8
+returns-8 c = search (further-file, needs)
+
+returns-9 : tie.Need-returns-9
+returns-9 c = search (further-file, needs)
+
+returns-10 : tie.Need-returns-10
+returns-10 c = search (further-memory, needs)
+
+returns-11 : tie.Need-returns-11
+returns-11 c = search (further-memory, needs)
+
+returns-12 : tie.Need-returns-12
+returns-12 c = search (further-memory, needs)
+
+returns-13 : tie.Need-returns-13
+returns-13 c = search (further-file, needs)
+
+returns-14 : tie.Need-returns-14
+returns-14 c = search (further-file, needs)
+
+returns-15 : tie.Need-returns-15
+returns-15 c = search (further-else, needs)
+
+pub further-spec : {M : Type 1} → statement M
+further-spec =
+    tie.close
+    (tie.spec
+    (λ c κs. search needs)
+    (λ c κs. search needs)
+    (λ c κs. search needs)
+    (λ c κs. search needs)
+    (λ c κs. search needs)
+    (λ c κs. search needs)
+    (λ c κs. search needs)
+    (λ c κs. search needs)
+    (λ c κs. search needs)
+    (λ c κs. search needs)
+    (λ c κs. search needs)
+    (λ c κs. search needs)
+    (λ c κs. search needs)
+    (λ c κs. search needs)
+    returns
+    (λ c. search needs)
+    returns-2
+    (λ c. search needs)
+    returns-3
+    returns-4
+    (λ c. search needs)
+    returns-5
+    returns-6
+    returns-7
+    returns-8
+    returns-9
+    (λ c. search needs)
+    returns-10
+    (λ c. search needs)
+    returns-11
+    (λ c. search needs)
+    returns-12
+    returns-13
+    returns-14
+    returns-15)

@@ -1,0 +1,42 @@
+use Rattle.quick_perform.proofs.Laws.{rest-file, rest-memory, rest-else}
+use borrow.Author.Needs.{needs}
+use Rattle.quick_perform.proofs.rest.Statement.{statement}
+use Rattle.quick_perform.proofs.rest.Tie as tie
+
+returns : tie.Need-returns
+returns c = search (rest-memory, needs)
+
+returns-2 : tie.Need-returns-2
+returns-2 c = search (rest-memory, needs)
+
+returns-3 : tie.Need-returns-3
+returns-3 c = search (rest-file, needs)
+
+returns-4 : tie.Need-returns-4
+returns-4 c = search (rest-memory, needs)
+
+returns-5 : tie.Need-returns-5
+returns-5 c = search (rest-memory, needs)
+
+returns-6 : tie.Need-returns-6
+returns-6 c = search (rest-else, needs)
+
+pub rest-spec : {M : Type 1} → statement M
+rest-spec =
+    tie.close
+    (tie.spec
+    (λ c κs. search needs)
+    (λ c κs. search needs)
+    (λ c κs. search needs)
+    (λ c κs. search needs)
+    (λ c κs. search needs)
+    (λ c. search needs)
+    returns
+    (λ c. search needs)
+    returns-2
+    returns-3
+    (λ c. search needs)
+    returns-4
+    (λ c. search needs)
+    returns-5
+    returns-6)
