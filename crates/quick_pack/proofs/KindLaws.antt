@@ -10,14 +10,14 @@ use Rattle.sheet.specs.declared.Io.the-variants.{In, Out}
 use Rattle.sheet.specs.declared.Repeat.the-variants.{WhileZ}
 use Rattle.sheet.specs.declared.Places.the-variants as places
 use Rattle.sheet.specs.declared.Arithmetic.the-variants.{Two, One, Test}
-use Rattle.sheet.specs.declared.Transfer.the-variants.{Mov, LoadAcc, StoreAcc}
+use Rattle.sheet.specs.declared.Transfer.the-variants.{Mov, LoadAcc, StoreAcc, Ldea, Xch, FromSegment}
 use Rattle.sheet.specs.declared.Stack.the-variants.{Push, Pop}
-use Rattle.sheet.specs.declared.Branch.the-variants.{CallNear, Ret, BrNear, BrShort}
-use Rattle.sheet.specs.declared.Conditional.the-variants.{If, Dbnz}
+use Rattle.sheet.specs.declared.Branch.the-variants.{CallNear, Ret, BrNear, BrShort, BrFar}
+use Rattle.sheet.specs.declared.Conditional.the-variants.{If, Dbnz, Dbnzne, Dbnze, Bcwz}
 use Rattle.sheet.specs.Groups.{Transfers, Calculates, Converts, Shifts, Decimals, Stacks, Branches, Tests}
 use Rattle.sheet.specs.FirstByte.{operationAt}
 use Rattle.quick_place.specs.Packed.{unaryAt, shiftAt, convertAt, stringAt, primitiveAt, repeatAt, addressAt, Fields}
-use Rattle.quick_pack.specs.Readings.{readings, further, rest, portAt, streamAt, portReadings, instrOf}
+use Rattle.quick_pack.specs.Readings.{amountAt, readings, further, rest, portAt, streamAt, portReadings, instrOf}
 
 module _ {r z m g o s d i : ℕ} {b : Bool} where
   pub is-1 : Fields r 1 z m g o s b d i → instrOf r ≡ Calculates (Two (operationAt (o % 8)) b (Register m) (Held (Register g)))
@@ -143,6 +143,42 @@ module _ {r z m g o s d i : ℕ} {b : Bool} where
   pub is-36 : Fields r 36 z m g o s b d i → instrOf r ≡ Multiplies (Mul b (Register m))
   unfolding instrOf rest
   is-36 f = rw (f .kind-is, f .word-is, f .rm-is)
+
+  pub is-37 : Fields r 37 z m g o s b d i → instrOf r ≡ Shifts (shiftAt (o % 8)) b (Register m) (places.Counted (amountAt g i))
+  unfolding instrOf rest
+  is-37 f = rw (f .kind-is, f .op-is, f .word-is, f .rm-is, f .reg-is, f .imm-is)
+
+  pub is-38 : Fields r 38 z m g o s b d i → instrOf r ≡ Shifts (shiftAt (o % 8)) b (Memory (addressAt m s d)) (places.Counted (amountAt g i))
+  unfolding instrOf rest
+  is-38 f = rw (f .kind-is, f .op-is, f .word-is, f .rm-is, f .seg-is, f .disp-is, f .reg-is, f .imm-is)
+
+  pub is-39 : Fields r 39 z m g o s b d i → instrOf r ≡ Transfers (Ldea g (addressAt m s d))
+  unfolding instrOf rest
+  is-39 f = rw (f .kind-is, f .rm-is, f .seg-is, f .disp-is, f .reg-is)
+
+  pub is-40 : Fields r 40 z m g o s b d i → instrOf r ≡ Transfers (Xch b g (Register m))
+  unfolding instrOf rest
+  is-40 f = rw (f .kind-is, f .word-is, f .rm-is, f .reg-is)
+
+  pub is-41 : Fields r 41 z m g o s b d i → instrOf r ≡ Transfers (FromSegment (Register m) s)
+  unfolding instrOf rest
+  is-41 f = rw (f .kind-is, f .rm-is, f .seg-is)
+
+  pub is-42 : Fields r 42 z m g o s b d i → instrOf r ≡ Branches (BrFar i d)
+  unfolding instrOf rest
+  is-42 f = rw (f .kind-is, f .imm-is, f .disp-is)
+
+  pub is-43 : Fields r 43 z m g o s b d i → instrOf r ≡ Tests (Dbnzne d)
+  unfolding instrOf rest
+  is-43 f = rw (f .kind-is, f .disp-is)
+
+  pub is-44 : Fields r 44 z m g o s b d i → instrOf r ≡ Tests (Dbnze d)
+  unfolding instrOf rest
+  is-44 f = rw (f .kind-is, f .disp-is)
+
+  pub is-45 : Fields r 45 z m g o s b d i → instrOf r ≡ Tests (Bcwz d)
+  unfolding instrOf rest
+  is-45 f = rw (f .kind-is, f .disp-is)
 
   pub is-48 : Fields r 48 z m g o s b d i → instrOf r ≡ Ports (In b (portAt m d))
   unfolding instrOf portReadings

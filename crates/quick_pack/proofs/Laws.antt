@@ -5,14 +5,16 @@ use mathlib.Core.Bool.{Bool, false}
 use mathlib.Core.List.{[], _∷_}
 use lib.ListN.{getD}
 use Rattle.sheet.specs.declared.Address.{Address}
+use Rattle.sheet.specs.declared.Amount.{Amount}
+use Rattle.sheet.specs.declared.Amount.the-variants.{InCl, Given}
 use Rattle.sheet.specs.declared.Arithmetic.{Arithmetic}
 use Rattle.sheet.specs.declared.Arithmetic.the-variants.{Two, One, Test}
 use Rattle.sheet.specs.declared.Branch.{Branch}
-use Rattle.sheet.specs.declared.Branch.the-variants.{CallNear, Ret, BrNear, BrShort}
+use Rattle.sheet.specs.declared.Branch.the-variants.{CallNear, Ret, BrNear, BrShort, BrFar}
 use Rattle.sheet.specs.declared.Compute.{Compute}
 use Rattle.sheet.specs.declared.Compute.the-variants as compute
 use Rattle.sheet.specs.declared.Conditional.{Conditional}
-use Rattle.sheet.specs.declared.Conditional.the-variants.{If, Dbnz}
+use Rattle.sheet.specs.declared.Conditional.the-variants.{If, Dbnz, Dbnzne, Dbnze, Bcwz}
 use Rattle.sheet.specs.declared.Convert.{Convert}
 use Rattle.sheet.specs.declared.Decimal.{Decimal}
 use Rattle.sheet.specs.declared.Decimal.the-variants.{Add4s, Sub4s, Cmp4s}
@@ -38,13 +40,13 @@ use Rattle.sheet.specs.declared.Source.the-variants.{Held, Immediate}
 use Rattle.sheet.specs.declared.Stack.{Stack}
 use Rattle.sheet.specs.declared.Stack.the-variants.{Push, Pop}
 use Rattle.sheet.specs.declared.Transfer.{Transfer}
-use Rattle.sheet.specs.declared.Transfer.the-variants.{Mov, LoadAcc, StoreAcc}
+use Rattle.sheet.specs.declared.Transfer.the-variants.{Mov, LoadAcc, StoreAcc, Ldea, Xch, FromSegment}
 use Rattle.sheet.specs.declared.Unary.{Unary}
 use Rattle.sheet.specs.Groups.{Transfers, Calculates, Converts, Shifts, Decimals, Stacks, Branches, Tests}
 use Rattle.sheet.specs.FirstByte.{operationAt}
 use Rattle.quick_place.specs.Packed.{unaryAt, shiftAt, convertAt, stringAt, primitiveAt, repeatAt, addressAt, Fields, Joined, unjoined, joined, Located, unlocated, located, Placed, unplaced, register, memory}
-use Rattle.quick_pack.specs.Readings.{portAt, streamAt, instrOf, Packs, none, packs}
-use Rattle.quick_pack.proofs.KindLaws.{is-1, is-2, is-3, is-4, is-5, is-6, is-7, is-8, is-9, is-10, is-11, is-12, is-16, is-17, is-18, is-19, is-20, is-21, is-22, is-23, is-24, is-25, is-26, is-27, is-28, is-29, is-32, is-33, is-34, is-35, is-36, is-48, is-49, is-50}
+use Rattle.quick_pack.specs.Readings.{amountAt, portAt, streamAt, instrOf, Packs, none, packs}
+use Rattle.quick_pack.proofs.KindLaws.{is-1, is-2, is-3, is-4, is-5, is-6, is-7, is-8, is-9, is-10, is-11, is-12, is-16, is-17, is-18, is-19, is-20, is-21, is-22, is-23, is-24, is-25, is-26, is-27, is-28, is-29, is-32, is-33, is-34, is-35, is-36, is-37, is-38, is-39, is-40, is-41, is-42, is-43, is-44, is-45, is-48, is-49, is-50}
 
 -- an instruction that is known to be another
 pub known : {I : Type 0} (f : I → Instr) {i j : I} {z r : ℕ} → i ≡ j → Packs (f j) z r → Packs (f i) z r
@@ -102,6 +104,22 @@ pub shift-one : (i : Compute) (k : Shift) (o z r : ℕ) (w : Bool) (to : Place) 
     → Packs (Computes i) z r
 shift-one i k o z r w to n e q l h = rw (e, q, l) (placed (λ p. Shifts (shiftAt (o % 8)) w p places.One) h (λ m f. is-24 f) (λ m s d f. is-25 f))
 
+module _ (k : Shift) (o z r : ℕ) (w : Bool) (to : Place) (a : Amount) (kind-is : k ≡ shiftAt (o % 8)) where
+  counted : (g i : ℕ) → a ≡ amountAt g i → Placed to 37 38 z g o w i r → Packs (Shifts k w to (places.Counted a)) z r
+  counted g i e h = rw (kind-is, e) (placed (λ p. Shifts (shiftAt (o % 8)) w p (places.Counted (amountAt g i))) h (λ m f. is-37 f) (λ m s d f. is-38 f))
+
+  pub by-cl : a ≡ InCl → Placed to 37 38 z 1 o w 0 r → Packs (Shifts k w to (places.Counted a)) z r
+  unfolding amountAt
+  by-cl e h = counted 1 0 e h
+
+  pub by-given : (n v : ℕ) → a ≡ Given n → v % 256 ≡ n → Placed to 37 38 z 0 o w v r → Packs (Shifts k w to (places.Counted a)) z r
+  unfolding amountAt
+  by-given n v e q h = counted 0 v (rw q e) h
+
+pub shift-counted : (i : Compute) (k : Shift) (w : Bool) (to : Place) (n : Places) (a : Amount) (z r : ℕ) → i ≡ compute.Shifts k w to n → n ≡ places.Counted a → Packs (Shifts k w to (places.Counted a)) z r
+    → Packs (Computes i) z r
+shift-counted i k w to n a z r e q h = rw (e, q) h
+
 -- ---- MOV
 
 module _ (z r : ℕ) (w : Bool) where
@@ -122,6 +140,16 @@ module _ (z r : ℕ) (w : Bool) where
 
   pub store-acc : (i : Transfer) (a : Address) → i ≡ StoreAcc w a → Located a 27 z 0 0 w 0 r → Packs (Transfers i) z r
   store-acc i a e h = rw e (addressed (λ x. Transfers (StoreAcc w x)) h (λ m s d f. is-27 f))
+
+module _ (z r : ℕ) (i : Transfer) where
+  pub ldea-is : (g : ℕ) (a : Address) → i ≡ Ldea g a → Located a 39 z g 0 false 0 r → Packs (Transfers i) z r
+  ldea-is g a e h = rw e (addressed (λ x. Transfers (Ldea g x)) h (λ m s d f. is-39 f))
+
+  pub xch-is : (w : Bool) (g n : ℕ) (p : Place) → i ≡ Xch w g p → p ≡ Register n → Joined 40 z n g 0 0 w 0 0 r → Packs (Transfers i) z r
+  xch-is w g n p e q h = rw (e, q) (packed (Transfers (Xch w g (Register n))) h is-40)
+
+  pub from-segment-is : (s n : ℕ) (p : Place) → i ≡ FromSegment p s → p ≡ Register n → Joined 41 z n 0 0 s false 0 0 r → Packs (Transfers i) z r
+  from-segment-is s n p e q h = rw (e, q) (packed (Transfers (FromSegment (Register n) s)) h is-41)
 
 -- ---- the stack and branches
 
@@ -145,7 +173,19 @@ module _ (z r : ℕ) where
     pub br-short : (d : ℕ) → i ≡ BrShort d → Joined 22 z 0 0 0 0 false d 0 r → Packs (Branches i) z r
     br-short d e h = rw e (packed (Branches (BrShort d)) h is-22)
 
+    pub br-far : (ps pc : ℕ) → i ≡ BrFar ps pc → Joined 42 z 0 0 0 0 false pc ps r → Packs (Branches i) z r
+    br-far ps pc e h = rw e (packed (Branches (BrFar ps pc)) h is-42)
+
   module _ (i : Conditional) where
+    pub dbnzne : (d : ℕ) → i ≡ Dbnzne d → Joined 43 z 0 0 0 0 false d 0 r → Packs (Tests i) z r
+    dbnzne d e h = rw e (packed (Tests (Dbnzne d)) h is-43)
+
+    pub dbnze : (d : ℕ) → i ≡ Dbnze d → Joined 44 z 0 0 0 0 false d 0 r → Packs (Tests i) z r
+    dbnze d e h = rw e (packed (Tests (Dbnze d)) h is-44)
+
+    pub bcwz : (d : ℕ) → i ≡ Bcwz d → Joined 45 z 0 0 0 0 false d 0 r → Packs (Tests i) z r
+    bcwz d e h = rw e (packed (Tests (Bcwz d)) h is-45)
+
     pub branch-if : (n d : ℕ) → i ≡ If n d → Joined 10 z 0 0 n 0 false d 0 r → Packs (Tests i) z r
     branch-if n d e h = rw e (packed (Tests (If n d)) h is-10)
 

@@ -5,6 +5,8 @@ use mathlib.Core.Bool.{Bool, _&&_}
 use mathlib.Core.List.{List, [], _∷_}
 use lib.Dec.{eqb, leb}
 use lib.ListN.{getD}
+use Rattle.sheet.specs.declared.Amount.{Amount}
+use Rattle.sheet.specs.declared.Amount.the-variants.{InCl, Given}
 use Rattle.sheet.specs.declared.Instr.{Instr}
 use Rattle.sheet.specs.declared.Instr.the-variants.{Multiplies, Blocks, Ports, Controls}
 use Rattle.sheet.specs.declared.Control.the-variants.{Nop}
@@ -20,10 +22,11 @@ use Rattle.sheet.specs.declared.Repeat.the-variants.{WhileZ}
 use Rattle.sheet.specs.Width.{pick}
 use Rattle.sheet.specs.declared.Places.the-variants as places
 use Rattle.sheet.specs.declared.Arithmetic.the-variants.{Two, One, Test}
-use Rattle.sheet.specs.declared.Transfer.the-variants.{Mov, LoadAcc, StoreAcc}
+use Rattle.sheet.specs.declared.Transfer.the-variants.{Mov, LoadAcc, StoreAcc, Ldea, Xch, FromSegment}
 use Rattle.sheet.specs.declared.Stack.the-variants.{Push, Pop}
-use Rattle.sheet.specs.declared.Branch.the-variants.{CallNear, Ret, BrNear, BrShort}
-use Rattle.sheet.specs.declared.Conditional.the-variants.{If, Dbnz}
+use Rattle.sheet.specs.declared.Branch.the-variants.{CallNear, Ret, BrNear, BrShort, BrFar}
+use Rattle.sheet.specs.declared.Conditional.the-variants.{If, Dbnz, Dbnzne, Dbnze, Bcwz}
+use Rattle.sheet.specs.Width.{pick}
 use Rattle.sheet.specs.Groups.{Transfers, Calculates, Converts, Shifts, Decimals, Stacks, Branches, Tests}
 use Rattle.sheet.specs.FirstByte.{operationAt}
 use Rattle.quick_place.specs.Packed.{kindOf, sizeOf, rmOf, regOf, opOf, unaryAt, shiftAt, convertAt, stringAt, primitiveAt, repeatAt, condOf, segOf, wordOf, dispOf, immOf, addressOf}
@@ -65,7 +68,11 @@ further r =
     ∷ Calculates (Test (wordOf r) (Register (rmOf r)) (Immediate (immOf r)))
     ∷ []
 
--- from 32 on: a block's primitive, single or repeated; decimal strings; conversions; products with a register
+-- a count: in CL where the field of the register is 1, else given
+unfoldable pub amountAt : ℕ → ℕ → Amount
+amountAt g v = pick (eqb g 1) InCl (Given (v % 256))
+
+-- from 32 on: a block's primitive, single or repeated; decimal strings; conversions; products with a register; shifts by a count; LDEA, XCH, MOV from a segment register; BR far, the other loops
 unfoldable pub rest : ℕ → List Instr
 rest r =
     Blocks (primitiveAt (opOf r)) (wordOf r) (segOf r) (repeatAt (regOf r))
@@ -73,6 +80,15 @@ rest r =
     ∷ Converts (convertAt (opOf r))
     ∷ Multiplies (Mulu (wordOf r) (Register (rmOf r)))
     ∷ Multiplies (Mul (wordOf r) (Register (rmOf r)))
+    ∷ Shifts (shiftAt (opOf r)) (wordOf r) (Register (rmOf r)) (places.Counted (amountAt (regOf r) (immOf r)))
+    ∷ Shifts (shiftAt (opOf r)) (wordOf r) (Memory (addressOf r)) (places.Counted (amountAt (regOf r) (immOf r)))
+    ∷ Transfers (Ldea (regOf r) (addressOf r))
+    ∷ Transfers (Xch (wordOf r) (regOf r) (Register (rmOf r)))
+    ∷ Transfers (FromSegment (Register (rmOf r)) (segOf r))
+    ∷ Branches (BrFar (immOf r) (dispOf r))
+    ∷ Tests (Dbnzne (dispOf r))
+    ∷ Tests (Dbnze (dispOf r))
+    ∷ Tests (Bcwz (dispOf r))
     ∷ []
 
 -- 8 in the register's field stands for the number in the displacement's, as in an address

@@ -1,4 +1,5 @@
 // An instruction packed into one number.
+use sheet::Amount;
 use sheet::Arithmetic;
 use sheet::Branch;
 use sheet::Compute;
@@ -25,10 +26,11 @@ ghost use Prim.Native.Nat.{_%_};
 ghost use Rattle.sheet.specs.declared.Instr.the-variants.{Computes, Moves, Multiplies, Blocks, Ports};
 ghost use Rattle.sheet.specs.declared.Arithmetic.the-variants.{Two, One, Test};
 ghost use Rattle.sheet.specs.declared.Place.the-variants.{Register};
+ghost use Rattle.sheet.specs.declared.Places.the-variants.{Counted};
 ghost use Rattle.sheet.specs.declared.Source.the-variants.{Held};
 ghost use Rattle.sheet.specs.declared.Transfer.the-variants.{Mov};
 ghost use Rattle.sheet.specs.declared.Io.the-variants.{In, Out};
-ghost use Rattle.sheet.specs.Groups.{Transfers, Calculates, Converts, Decimals, Stacks, Branches, Tests};
+ghost use Rattle.sheet.specs.Groups.{Transfers, Calculates, Converts, Shifts, Decimals, Stacks, Branches, Tests};
 ghost use Rattle.sheet.specs.FirstByte.{operationAt};
 ghost use Rattle.quick_place.specs.Packed.{unaryAt, shiftAt, convertAt, repeatAt};
 ghost use Rattle.quick_pack.specs.Readings.{streamAt, atPort, Packs};
@@ -161,6 +163,25 @@ fn calculate(i: Arithmetic, size: u16) -> u64
     }
 }
 
+fn count(n: u8) -> u16
+    ensures { λ r. ⌜ r % 256 ≡ n ⌝ }
+{
+    n as u16
+}
+
+fn shift_by(kind: Shift, word: bool, to: Place, amount: Amount, size: u16) -> u64
+    ensures { λ r. ⌜ Packs (Shifts kind word to (Counted amount)) size r ⌝ }
+{
+    let o = shift_number(kind);
+    match amount {
+        Amount::InCl => quick_place::place(to, 37, 38, size, 1, o, word, 0),
+        Amount::Given(n) => {
+            let v = count(n);
+            quick_place::place(to, 37, 38, size, 0, o, word, v)
+        }
+    }
+}
+
 fn decimal(i: Decimal, size: u16) -> u64
     ensures { λ r. ⌜ Packs (Decimals i) size r ⌝ }
 {
@@ -196,7 +217,7 @@ fn compute(i: Compute, size: u16) -> u64
                 let o = shift_number(kind);
                 quick_place::place(to, 24, 25, size, 0, o, word, 0)
             }
-            Places::Counted(amount) => 0,
+            Places::Counted(amount) => shift_by(kind, word, to, amount, size),
         },
         Compute::Bits {
             op,
@@ -237,6 +258,15 @@ fn transfer(i: Transfer, size: u16) -> u64
         Transfer::Mov { word, to, from } => mov(word, to, from, size),
         Transfer::LoadAcc { word, from } => quick_place::address(from, 26, size, 0, 0, word, 0),
         Transfer::StoreAcc { word, to } => quick_place::address(to, 27, size, 0, 0, word, 0),
+        Transfer::FromSegment { to, seg } => match to {
+            Place::Register(n) => quick_place::join(41, size, n, 0, 0, seg, false, 0, 0),
+            Place::Memory(a) => 0,
+        },
+        Transfer::Ldea { reg, from } => quick_place::address(from, 39, size, reg, 0, false, 0),
+        Transfer::Xch { word, reg, with } => match with {
+            Place::Register(n) => quick_place::join(40, size, n, reg, 0, 0, word, 0, 0),
+            Place::Memory(a) => 0,
+        },
         _ => 0,
     }
 }
@@ -265,6 +295,7 @@ fn branch(i: Branch, size: u16) -> u64
         Branch::Ret => quick_place::join(12, size, 0, 0, 0, 0, false, 0, 0),
         Branch::BrNear { disp } => quick_place::join(21, size, 0, 0, 0, 0, false, disp, 0),
         Branch::BrShort { disp } => quick_place::join(22, size, 0, 0, 0, 0, false, disp, 0),
+        Branch::BrFar { ps, pc } => quick_place::join(42, size, 0, 0, 0, 0, false, pc, ps),
         _ => 0,
     }
 }
@@ -276,8 +307,10 @@ fn conditional(i: Conditional, size: u16) -> u64
         Conditional::If { condition, disp } => {
             quick_place::join(10, size, 0, 0, condition, 0, false, disp, 0)
         }
+        Conditional::Dbnzne { disp } => quick_place::join(43, size, 0, 0, 0, 0, false, disp, 0),
+        Conditional::Dbnze { disp } => quick_place::join(44, size, 0, 0, 0, 0, false, disp, 0),
         Conditional::Dbnz { disp } => quick_place::join(23, size, 0, 0, 0, 0, false, disp, 0),
-        _ => 0,
+        Conditional::Bcwz { disp } => quick_place::join(45, size, 0, 0, 0, 0, false, disp, 0),
     }
 }
 

@@ -45,8 +45,8 @@ unfolding further operation computing calculate moving transfer branch condition
 each-further r start = more refl (more refl (more refl (more refl (more refl (more refl (more refl (more refl (more refl (more refl (more refl (more refl (more refl (more refl none)))))))))))))
 
 each-rest : (r start : ℕ) → Does start (rest r) (restTrees r start)
-unfolding rest operation computing multiply
-each-rest r start = more refl (more refl (more refl (more refl (more refl none))))
+unfolding rest operation computing multiply moving transfer branch conditional
+each-rest r start = more refl (more refl (more refl (more refl (more refl (more refl (more refl (more refl (more refl (more refl (more refl (more refl (more refl (more refl none)))))))))))))
 
 tree-at : {start : ℕ} {is : List Instr} {ts : List (Act Unit)} → Does start is ts → (k : ℕ) → operation (getD is k (Controls Nop)) start ≡ untrapped (getD ts k (pure tt))
 unfolding operation control
@@ -117,12 +117,13 @@ module _ (r : ℕ) (f ram rom : List ℕ) where
 three-on : (k : ℕ) → (k ≡ 0 → ⊥) → (k ≡ 1 → ⊥) → (k ≡ 2 → ⊥) → 3 ≤ k
 three-on k a b c = omega arith
 
-no-rest : (r start k : ℕ) → (k ≡ 0 → ⊥) → (k ≡ 1 → ⊥) → (k ≡ 2 → ⊥) → (k ≡ 3 → ⊥) → (k ≡ 4 → ⊥) → getD (restTrees r start) k (pure tt) ≡ pure tt
-no-rest r start k a b c d e = past (restTrees r start) k (pure tt) (two-on k 3 (three-on k a b c) d e)
+no-rest : (r start k : ℕ) → (k ≡ 0 → ⊥) → (k ≡ 1 → ⊥) → (k ≡ 2 → ⊥) → (k ≡ 3 → ⊥) → (k ≡ 4 → ⊥) → (k ≡ 5 → ⊥) → (k ≡ 6 → ⊥) → (k ≡ 7 → ⊥) → (k ≡ 8 → ⊥) → (k ≡ 9 → ⊥) → (k ≡ 10 → ⊥) → (k ≡ 11 → ⊥) → (k ≡ 12 → ⊥) → (k ≡ 13 → ⊥)
+    → getD (restTrees r start) k (pure tt) ≡ pure tt
+no-rest r start k z a b c d e f g h i j l m n = past (restTrees r start) k (pure tt) (two-on k 12 (four-on k 8 (four-on k 4 (four-on k 0 (omega arith) z a b c) d e f g) h i j l) m n)
 
-pub rest-else : (r start : ℕ) (f ram rom : List ℕ) → (kindOf r % 16 ≡ 0 → ⊥) → (kindOf r % 16 ≡ 1 → ⊥) → (kindOf r % 16 ≡ 2 → ⊥) → (kindOf r % 16 ≡ 3 → ⊥) → (kindOf r % 16 ≡ 4 → ⊥)
+pub rest-else : (r start : ℕ) (f ram rom : List ℕ) → (kindOf r % 16 ≡ 0 → ⊥) → (kindOf r % 16 ≡ 1 → ⊥) → (kindOf r % 16 ≡ 2 → ⊥) → (kindOf r % 16 ≡ 3 → ⊥) → (kindOf r % 16 ≡ 4 → ⊥) → (kindOf r % 16 ≡ 5 → ⊥) → (kindOf r % 16 ≡ 6 → ⊥) → (kindOf r % 16 ≡ 7 → ⊥) → (kindOf r % 16 ≡ 8 → ⊥) → (kindOf r % 16 ≡ 9 → ⊥) → (kindOf r % 16 ≡ 10 → ⊥) → (kindOf r % 16 ≡ 11 → ⊥) → (kindOf r % 16 ≡ 12 → ⊥) → (kindOf r % 16 ≡ 13 → ⊥)
     → OnMemory Unit (restTree r start) f ram rom tt f ram (busAt 0) 384
-rest-else r start f ram rom a b c d e = rest-file r (kindOf r % 16) start f f ram ram rom 0 refl (rw (no-rest r start (kindOf r % 16) a b c d e) file-pure)
+rest-else r start f ram rom z a b c d e f′ g h i j l m n = rest-file r (kindOf r % 16) start f f ram ram rom 0 refl (rw (no-rest r start (kindOf r % 16) z a b c d e f′ g h i j l m n) file-pure)
 
 -- ---- the groups
 

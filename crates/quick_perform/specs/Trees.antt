@@ -1,9 +1,10 @@
 -- What the instruction of each kind of reading does.
 use Prim.Native.Nat.{ℕ, _%_}
+use mathlib.Core.Bool.{true, false}
 use mathlib.Core.List.{List, [], _∷_}
 use lib.ListN.{getD}
 use Rattle.sheet.specs.declared.Place.the-variants.{Register, Memory}
-use Rattle.sheet.specs.declared.Places.the-variants.{One}
+use Rattle.sheet.specs.declared.Places.the-variants.{One, Counted}
 use Rattle.sheet.specs.declared.Source.the-variants.{Held, Immediate}
 use Rattle.sheet.specs.FirstByte.{operationAt}
 use Rattle.sheet.specs.Act.{Act, pure}
@@ -13,10 +14,12 @@ use Rattle.sheet.specs.Convert.{convert}
 use Rattle.sheet.specs.Decimal.{decimal}
 use Rattle.sheet.specs.Multiply.{mulu, mul}
 use Rattle.sheet.specs.Shift.{shift}
-use Rattle.sheet.specs.Transfer.{mov, loadAcc, storeAcc}
+use Rattle.sheet.specs.Transfer.{mov, loadAcc, storeAcc, ldea, xch, fromSegment}
 use Rattle.sheet.specs.Stack.{pushRegister, popPlace}
-use Rattle.sheet.specs.Branch.{jump, branchIf, dbnz, callNear, ret}
+use Rattle.sheet.specs.Traps.{jumpFar}
+use Rattle.sheet.specs.Branch.{jump, branchIf, dbnz, dbnzWhile, bcwz, callNear, ret}
 use Rattle.quick_place.specs.Packed.{kindOf, opOf, unaryAt, shiftAt, convertAt, stringAt, primitiveAt, repeatAt, condOf, segOf, wordOf, rmOf, regOf, dispOf, immOf, addressOf}
+use Rattle.quick_pack.specs.Readings.{amountAt}
 
 -- in the order of `readings`
 abbrev pub trees : ℕ → List (Act Unit)
@@ -63,6 +66,15 @@ restTrees r start =
     ∷ convert (convertAt (opOf r))
     ∷ mulu (wordOf r) (Register (rmOf r))
     ∷ mul (wordOf r) (Register (rmOf r))
+    ∷ shift (shiftAt (opOf r)) (wordOf r) (Register (rmOf r)) (Counted (amountAt (regOf r) (immOf r)))
+    ∷ shift (shiftAt (opOf r)) (wordOf r) (Memory (addressOf r)) (Counted (amountAt (regOf r) (immOf r)))
+    ∷ ldea (regOf r) (addressOf r)
+    ∷ xch (wordOf r) (regOf r) (Register (rmOf r))
+    ∷ fromSegment (Register (rmOf r)) (segOf r)
+    ∷ jumpFar (immOf r) (dispOf r)
+    ∷ dbnzWhile false (dispOf r)
+    ∷ dbnzWhile true (dispOf r)
+    ∷ bcwz (dispOf r)
     ∷ []
 
 -- by the low digit of the kind

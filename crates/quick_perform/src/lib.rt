@@ -102,6 +102,36 @@ fn rest(file: &mut [u16; 14], ram: &mut [u8], rom: &[u8], r: u64, start: u16) ->
         }
         3 => quick_rest::mulu(file, ram, rom, r),
         4 => quick_rest::mul(file, ram, rom, r),
+        5 => quick_more::shift_r(file, ram, rom, r),
+        6 => quick_more::shift_m(file, ram, rom, r),
+        7 => {
+            quick_more::ldea(file, r);
+            0
+        }
+        8 => {
+            quick_more::xch(file, r);
+            0
+        }
+        9 => {
+            quick_more::from_segment(file, r);
+            0
+        }
+        10 => {
+            quick_more::br_far(file, r);
+            0
+        }
+        11 => {
+            quick_more::dbnzne(file, r);
+            0
+        }
+        12 => {
+            quick_more::dbnze(file, r);
+            0
+        }
+        13 => {
+            quick_more::bcwz(file, r);
+            0
+        }
         _ => 0,
     }
 }

@@ -41,7 +41,7 @@ fn repeat_of(r: u64) -> Repeat
     }
 }
 
-fn seg_of(r: u64) -> u8
+pub fn seg_of(r: u64) -> u8
     ensures { λ x. ⌜ x ≡ segOf r ⌝ }
 {
     (r / 16777216 % 4) as u8

@@ -10,7 +10,7 @@ ghost use Rattle.mach_tally.specs.Lent.{Does};
 ghost use Rattle.quick_tally.specs.Packed.{busAt};
 ghost use Rattle.quick_place.specs.Packed.{opOf, shiftAt, wordOf, rmOf, addressOf};
 
-fn shift_of(r: u64) -> Shift
+pub fn shift_of(r: u64) -> Shift
     ensures { λ x. ⌜ x ≡ shiftAt (opOf r) ⌝ }
 {
     match r / 1048576 % 8 {

@@ -98,8 +98,8 @@ unfolding further loadsSegment movesIn movIn
 each-further r = more refl (more refl (more refl (more refl (more refl (more refl (more refl (more refl (more refl (more refl (more refl (more refl (more refl (more refl none)))))))))))))
 
 each-rest : (r : ℕ) → Plain (rest r)
-unfolding rest loadsSegment
-each-rest r = more refl (more refl (more refl (more refl (more refl none))))
+unfolding rest loadsSegment movesIn movIn
+each-rest r = more refl (more refl (more refl (more refl (more refl (more refl (more refl (more refl (more refl (more refl (more refl (more refl (more refl (more refl none)))))))))))))
 
 each-port : (r : ℕ) → Plain (portReadings r)
 unfolding portReadings loadsSegment

@@ -1,4 +1,4 @@
-use Rattle.quick_pack.proofs.Laws.{known, shift-one}
+use Rattle.quick_pack.proofs.Laws.{known, shift-one, shift-counted}
 use Rattle.sheet.specs.declared.Instr.the-variants.{Computes}
 use Rattle.quick_pack.specs.Readings.{none}
 use mathlib.Core.Path.{refl}
@@ -16,7 +16,7 @@ returns-3 : tie.Need-returns-3
 returns-3 c = search (shift-one, needs)
 
 returns-4 : tie.Need-returns-4
-returns-4 c = none refl
+returns-4 c = search (shift-counted, needs)
 
 returns-5 : tie.Need-returns-5
 returns-5 c = none refl
@@ -40,6 +40,7 @@ compute-spec =
     (λ c κs. search needs)
     (λ c κs. search needs)
     (λ c. search needs)
+    (λ c κs. search needs)
     (λ c. search needs)
     (λ c. search needs)
     (λ c κs. search needs)
