@@ -1,0 +1,2 @@
+pub mod CardOperation
+pub mod Lent
