@@ -5,11 +5,22 @@ second=../../second
 (cd "$second" && cargo build --quiet --release --offline) || exit 2
 programs=$(cd "$second" && realpath "${CARGO_TARGET_DIR:-target}")/release
 
+build=../classes/build
 ram_bytes=4096
 steps=100000
 
 room=$(mktemp -d) || exit 2
 trap 'rm -rf "$room"' EXIT
+
+# refuses NAME LINES MESSAGE: the assembler says this of a source with these lines from the second on, and makes no image
+refuses() {
+    rm -f "$room/refused.rom"
+    printf 'ROM_SEGMENT EQU 0FFFFh\n%s\n' "$2" >"$room/refused.asm"
+    "$build" "$room/refused.asm" "$room/refused.rom" >"$room/got" 2>&1 && echo "accepted" >>"$room/got"
+    [ ! -e "$room/refused.rom" ] || echo "made an image" >>"$room/got"
+    echo "build: refused.asm: $3" >"$room/wanted"
+    same "build: $1" "$room/wanted" "$room/got"
+}
 
 # expects ENGINE NAME SAID LISTING: why the tape's run stopped, and the listing of its log; step counts are not compared
 expects() {
