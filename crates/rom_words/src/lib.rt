@@ -100,7 +100,7 @@ fn put_interrupt(line: &mut [u8; 80], at: usize, i: Interrupt) -> usize
 }
 
 fn put_mode(line: &mut [u8; 80], at: usize, i: Mode) -> usize
-    ensures { λ r. ⌜ Adds (words.modeText i) (now (line .entry)) at r (now (line .exit)) ⌝ }
+    ensures { λ r. ⌜ AddsTo (words.modeText i) line at r ⌝ }
 {
     match i {
         Mode::PopPsw => put_word(line, at, b"POP PSW"),
