@@ -27,6 +27,7 @@ pub mod BoundsStep
 pub mod BoundsPrepare
 pub mod PortOnce
 pub mod PortRow
+pub mod ModesNative
 pub mod Log
 pub mod Dropped
 pub mod BoundsDropped
