@@ -28,6 +28,7 @@ pub mod BoundsPrepare
 pub mod PortOnce
 pub mod PortRow
 pub mod ModesNative
+pub mod ModesBack
 pub mod Log
 pub mod Dropped
 pub mod BoundsDropped
