@@ -12,16 +12,17 @@ use Rattle.sheet.specs.declared.Bus.{Bus}
 use Rattle.sheet.specs.declared.Entry.{Entry}
 use Rattle.sheet.specs.declared.Entry.the-variants as entry
 use Rattle.sheet.specs.Width.{wrapOf}
-use Rattle.sheet.specs.Psw.{settled}
+use Rattle.sheet.specs.Psw.{settled, inMode}
 use Rattle.sheet.specs.Registers.{AW, SP}
 use Rattle.sheet.specs.Memory.{byteAt, readMem, writeMem, busCycles, lost, lostBytes}
 use Rattle.sheet.specs.Act.{_>>=_}
-use Rattle.sheet.specs.World.{World}
+use Rattle.sheet.specs.World.{World, crossed}
 use Rattle.sheet.specs.Handler.{Event, done, runBy, nothing, tally}
 use Rattle.sheet.specs.Contract.{Report, report}
 use Rattle.sheet.specs.declared.GapRule.{GapRule}
 use Rattle.sheet.specs.Log.{entryOf, readLog, entryNumber}
-use Rattle.sheet.specs.Traps.{push, pushPsw, pushPsPc, jumpFar, save, trap}
+use Rattle.sheet.specs.Traps.{push, pushPsw, pushPsPc, jumpFar, save, vectored, trap}
+use Rattle.sheet.specs.Traps as traps
 use Rattle.sheet.specs.Step.{fits, sound, awake, stepBy, step, stepReport, interrupting, interruptBy, interrupt, interruptReport}
 use Rattle.sheet.proofs.SmallTable.{small-table}
 use Rattle.log_record.proofs.Vectors.{sample-first}
@@ -103,7 +104,7 @@ module _ (engine : World → Report) (meets : MeetsStep engine) where
 -- ---- an interrupt call
 
 pub takes-it : interruptReport 0 false callable ≡ report 0 entered (cyclesOnly 5)
-unfolding interruptReport interrupt interruptBy fits sound interrupting trap save pushPsw pushPsPc jumpFar push _>>=_ runBy tally wrapOf settled readMem writeMem byteAt busCycles lost lostBytes
+unfolding interruptReport interrupt interruptBy fits sound interrupting trap vectored traps.entered save pushPsw pushPsPc jumpFar push _>>=_ runBy crossed inMode tally wrapOf settled readMem writeMem byteAt busCycles lost lostBytes
 takes-it = refl
 
 pub is-masked : interruptReport 0 true masked ≡ report 7 masked nothing

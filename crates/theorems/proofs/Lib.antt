@@ -1,4 +1,5 @@
 pub mod Quiet
+pub mod Tame
 pub mod Widths
 pub mod RepeatRuns
 pub mod RepeatCount
@@ -18,11 +19,16 @@ pub mod BoundsRules
 pub mod BoundsOperands
 pub mod BoundsGroups
 pub mod BoundsFlow
+pub mod BoundsCards
 pub mod BoundsReading
 pub mod BoundsCodes
+pub mod CardsRead
 pub mod BoundsStep
 pub mod BoundsPrepare
 pub mod PortOnce
+pub mod PortRow
+pub mod ModesNative
+pub mod ModesBack
 pub mod Log
 pub mod Dropped
 pub mod BoundsDropped
