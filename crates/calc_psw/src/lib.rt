@@ -1,4 +1,4 @@
-// PSW after an instruction: a column of flags applied, one flag set, a trap entered, stored flags taken back, the mode changed. No function here has a precondition.
+// PSW after an instruction: a column applied, one flag set, a trap entered, stored flags taken back, the mode changed. No preconditions.
 ghost use mathlib.Core.Bool.{true};
 ghost use mathlib.Core.Path.{_≡_};
 ghost use Rattle.sheet.specs.Psw.{CY, IE, DIR, flagOf, nativeOf, pack, becomes, columns, column, only, entering, keeps, settled, inMode};

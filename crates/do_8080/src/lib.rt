@@ -7,7 +7,7 @@ use sheet::Progress;
 use sheet::cards::Card;
 ghost use mathlib.Core.Path.{_≡_};
 ghost use Rattle.sheet.specs.Execute.{carding};
-ghost use Rattle.do_8080.specs.Lent.{OnAll};
+ghost use Rattle.do_8080.specs.Lent.{CardsOn};
 
 // What an instruction came to: the refusal's number, the marks, the places, the bus.
 pub struct Carded {
@@ -63,7 +63,7 @@ pub fn card(
     q: Progress,
     i: Card,
 ) -> Carded
-    ensures { λ r. ⌜ OnAll (carding i) (now (file .entry)) (now (ram .entry)) (now (rom .entry)) (now (tape .entry)) (now (log .entry)) m q (r .number) (now (file .exit)) (now (ram .exit)) (now (log .exit)) (r .marks) (r .progress) (r .bus) 8 ⌝ }
+    ensures { λ r. ⌜ CardsOn (carding i) file ram rom tape log m q r 8 ⌝ }
 {
     match i {
         Card::Transfers(t) => quiet(m, q, do_transfer::transfer(file, ram, rom, t)),

@@ -13,7 +13,7 @@ ghost use Rattle.sheet.specs.Contract.{OnFile};
 ghost use Rattle.quick_place.specs.Packed.{rmOf, wordOf, dispOf};
 ghost use Rattle.quick_pack.specs.Readings.{portAt};
 ghost use Rattle.quick_stand.specs.Stand.{Lent};
-ghost use Rattle.quick_port.specs.Reached.{Lodges, Sends, Draws, Reaches};
+ghost use Rattle.quick_port.specs.Reached.{LodgesOn, Sends, DrawsOn, ReachesOn};
 
 // Adds a record with the count; the tape's place is then `next`. 0, or 6 where the log has no room.
 fn add_record(
@@ -25,7 +25,7 @@ fn add_record(
     v: u16,
 ) -> u64
     requires { ⌜ Lent (now stand) ⌝ }
-    ensures { λ r. ⌜ Lodges (recordBytes rule count key v) next count (now (log .entry)) (now (stand .entry)) r (now (log .exit)) (now (stand .exit)) ⌝ }
+    ensures { λ r. ⌜ LodgesOn (recordBytes rule count key v) next count log stand r ⌝ }
 {
     let at = stand[1];
     match mach_ports::put_at(log, at, count, key, v) {
@@ -82,7 +82,7 @@ fn take_present(
     port: u16,
 ) -> u64
     requires { ⌜ Lent (now stand) × (getD (now stand) 0 0 + bytesOf word ≤ length (now tape)) ⌝ }
-    ensures { λ x. ⌜ Draws word port count (now (tape .entry)) (now (log .entry)) (now (stand .entry)) x (now (log .exit)) (now (stand .exit)) ⌝ }
+    ensures { λ x. ⌜ DrawsOn word port count tape log stand x ⌝ }
 {
     let at = stand[0];
     let v = tape_value(word, tape, at);
@@ -111,7 +111,7 @@ pub fn take(
     port: u16,
 ) -> u64
     requires { ⌜ Lent (now stand) ⌝ }
-    ensures { λ x. ⌜ Draws word port count (now (tape .entry)) (now (log .entry)) (now (stand .entry)) x (now (log .exit)) (now (stand .exit)) ⌝ }
+    ensures { λ x. ⌜ DrawsOn word port count tape log stand x ⌝ }
 {
     let at = stand[0];
     let n = calc_word::bytes(word) as usize;
@@ -146,7 +146,8 @@ pub fn input(
     r: u64,
 ) -> u64
     requires { ⌜ Lent (now stand) ⌝ }
-    ensures { λ x. ⌜ Reaches (tree.ports (io.In (wordOf r) (portAt (rmOf r) (dispOf r)))) (now (file .entry)) (now (ram .entry)) (now (rom .entry)) (now (tape .entry)) (now (log .entry)) (now (stand .entry)) count x (now (file .exit)) (now (ram .entry)) (now (log .exit)) (now (stand .exit)) ⌝ }
+    ensures { λ x. ⌜ ReachesOn (tree.ports (io.In (wordOf r) (portAt (rmOf r) (dispOf r))))
+        file ram rom tape log stand count x (now (file .exit)) (now (ram .entry)) ⌝ }
 {
     let word = quick_do::word_of(r);
     let port = port_of(file, r);
@@ -170,7 +171,8 @@ pub fn output(
     r: u64,
 ) -> u64
     requires { ⌜ Lent (now stand) ⌝ }
-    ensures { λ x. ⌜ Reaches (tree.ports (io.Out (wordOf r) (portAt (rmOf r) (dispOf r)))) (now (file .entry)) (now (ram .entry)) (now (rom .entry)) (now (tape .entry)) (now (log .entry)) (now (stand .entry)) count x (now (file .entry)) (now (ram .entry)) (now (log .exit)) (now (stand .exit)) ⌝ }
+    ensures { λ x. ⌜ ReachesOn (tree.ports (io.Out (wordOf r) (portAt (rmOf r) (dispOf r))))
+        file ram rom tape log stand count x (now (file .entry)) (now (ram .entry)) ⌝ }
 {
     let word = quick_do::word_of(r);
     let port = port_of(file, r);

@@ -13,6 +13,8 @@ use Rattle.code_answer.specs.Answer.{Decodes}
 use Rattle.quick_place.specs.Packed.{sizeOf}
 use Rattle.quick_pack.specs.Readings.{instrOf}
 use Rattle.quick_stand.specs.Stand.{marksAt}
+use denote.Ref.{now}
+use Rattle.mach_tally.specs.Lent.{Lent}
 
 -- unless it is 0, the machine is awake, not traced, in native mode and without the permission, and r is the instruction at PS:PC
 pub record Ready (f p ram rom : List ℕ) (r : ℕ) : Type 0 where
@@ -21,3 +23,6 @@ pub record Ready (f p ram rom : List ℕ) (r : ℕ) : Type 0 where
   pub native : (r ≡ 0 → ⊥) → nativeOf (getD f PSW 0) ≡ true
   pub untraced : (r ≡ 0 → ⊥) → flagOf (getD f PSW 0) BRK ≡ false
   pub reads : (r ≡ 0 → ⊥) → Decodes instruction (codeByte ram rom (getD f PS 0) (getD f PC 0)) 0 (Known (instrOf r) (sizeOf r))
+
+abbrev pub ReadyOn : Lent → Lent → Lent → Lent → ℕ → Type 0
+ReadyOn file stand ram rom r = Ready (now (file .entry)) (now (stand .entry)) (now (ram .entry)) (now (rom .entry)) r
