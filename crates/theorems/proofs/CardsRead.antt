@@ -83,12 +83,12 @@ pub data Named : Card → Type 0 where
 
 -- ---- what a field chooses from a list
 
-data All {A : Type 0} (P : A → Type 0) : List A → Type 0 where
+pub data All {A : Type 0} (P : A → Type 0) : List A → Type 0 where
   no-more : All P []
   _then_ : {a : A} {l : List A} → P a → All P l → All P (a ∷ l)
 
 infixr 30 _then_
-chosen : {A : Type 0} {P : A → Type 0} (l : List A) (d : A) → All P l → P d → (n : ℕ) → P (getD l n d)
+pub chosen : {A : Type 0} {P : A → Type 0} (l : List A) (d : A) → All P l → P d → (n : ℕ) → P (getD l n d)
 chosen [] d no-more h n = h
 chosen (a ∷ l) d (x then y) h zero = x
 chosen (a ∷ l) d (x then y) h (suc n) = chosen l d y h n

@@ -29,6 +29,8 @@ pub mod PortOnce
 pub mod PortRow
 pub mod ModesNative
 pub mod ModesBack
+pub mod ModesRules
+pub mod ModesCards
 pub mod Log
 pub mod Dropped
 pub mod BoundsDropped

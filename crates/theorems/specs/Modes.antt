@@ -1,15 +1,18 @@
 -- What is said of the two modes.
-use Prim.Native.Nat.{ℕ, _<_}
+use Prim.Native.Nat.{ℕ, _/_, _<_}
 use mathlib.Core.Path.{_≡_}
 use mathlib.Core.Bool.{true, false}
+use mathlib.Core.List.{List}
 use mathlib.Core.Logic.{_≢_}
-use lib.ListN.{length}
+use lib.ListN.{length, getD}
 use Rattle.sheet.specs.declared.Instr.{Instr}
-use Rattle.sheet.specs.declared.Instr.the-variants.{Modes}
+use Rattle.sheet.specs.declared.Instr.the-variants.{Modes, Cards}
+use Rattle.sheet.specs.declared.cards.CardMode.{CardMode}
+use Rattle.sheet.specs.declared.cards.Card.the-variants as cards
 use Rattle.sheet.specs.declared.Mode.the-variants.{Brkem}
 use Rattle.sheet.specs.Width.{add16, sub16}
 use Rattle.sheet.specs.Psw.{nativeOf}
-use Rattle.sheet.specs.Registers.{SP, PS, SS, PC}
+use Rattle.sheet.specs.Registers.{AW, SP, IX, IY, DS1, PS, SS, DS0, PC}
 use Rattle.sheet.specs.Memory.{physical, readMem}
 use Rattle.sheet.specs.World.{World, pswOf}
 use Rattle.theorems.specs.Repeat.{reg}
@@ -48,3 +51,24 @@ pub record GivenBack (w v : World) : Type 0 where
   pub psw : pswOf (v .state) ≡ pswOf (w .state)
   pub sp : reg v SP ≡ reg w SP
   pub locked : v .state .marks .writable ≡ false
+
+-- ---- in the 8080 mode
+
+-- SP, IX, IY and the segment registers, for which no register of the 8080 stands
+pub data Unmapped : ℕ → Type 0 where
+  is-sp : Unmapped SP
+  is-ix : Unmapped IX
+  is-iy : Unmapped IY
+  is-ds1 : Unmapped DS1
+  is-ps : Unmapped PS
+  is-ss : Unmapped SS
+  is-ds0 : Unmapped DS0
+
+-- they and AH are in the registers g as in f
+pub record Unaffected (f g : List ℕ) : Type 0 where
+  pub same : (n : ℕ) → Unmapped n → getD g n 0 ≡ getD f n 0
+  pub ah : getD g AW 0 / 256 ≡ getD f AW 0 / 256
+
+-- neither CALLN nor RETEM
+abbrev pub NotMode : Instr → Type 0
+NotMode i = (c : CardMode) → i ≢ Cards (cards.Modes c)
