@@ -26,7 +26,6 @@ use Rattle.sheet.specs.declared.Transfer.the-variants.{Mov, LoadAcc, StoreAcc, 
 use Rattle.sheet.specs.declared.Stack.the-variants.{Push, Pop}
 use Rattle.sheet.specs.declared.Branch.the-variants.{CallNear, Ret, BrNear, BrShort, BrFar}
 use Rattle.sheet.specs.declared.Conditional.the-variants.{If, Dbnz, Dbnzne, Dbnze, Bcwz}
-use Rattle.sheet.specs.Width.{pick}
 use Rattle.sheet.specs.Groups.{Transfers, Calculates, Converts, Shifts, Decimals, Stacks, Branches, Tests}
 use Rattle.sheet.specs.FirstByte.{operationAt}
 use Rattle.quick_place.specs.Packed.{kindOf, sizeOf, rmOf, regOf, opOf, unaryAt, shiftAt, convertAt, stringAt, primitiveAt, repeatAt, condOf, segOf, wordOf, dispOf, immOf, addressOf}
