@@ -1,7 +1,7 @@
 -- What each return of the code comes to, over plain values.
 use Prim.Native.Nat.{ℕ, zero, suc, _+_, _-_, _*_, _/_, _%_, _≤_, _<_}
 use mathlib.Core.Path.{_≡_, refl, sym, ap, _∙_}
-use mathlib.Core.Bool.{Bool, true, false, not, _&&_}
+use mathlib.Core.Bool.{Bool, true, false, not, _&&_, _||_, true≢false}
 use mathlib.Core.List.{List, [], _∷_}
 use native.Mathlib.Omega.{arith}
 use lib.Dec.{eqb, leb, lit≤}
@@ -15,7 +15,7 @@ use Rattle.sheet.specs.declared.Marks.{Marks}
 use Rattle.sheet.specs.declared.Progress.{Progress}
 use Rattle.sheet.specs.declared.State.{State}
 use Rattle.sheet.specs.Width.{odd}
-use Rattle.sheet.specs.Psw.{BRK, flagOf}
+use Rattle.sheet.specs.Psw.{BRK, flagOf, nativeOf}
 use Rattle.sheet.specs.Registers.{PS, PC, PSW}
 use Rattle.sheet.specs.Log.{rule, risen}
 use Rattle.sheet.specs.World.{stateOf, marksOf, markLoaded}
@@ -50,21 +50,28 @@ use Rattle.quick_step.specs.Turns.{numberOf, costOf, Turns}
 -- ---- the reading
 
 pub not-ready : (f p ram rom : List ℕ) (r : ℕ) → r ≡ 0 → Ready f p ram rom r
-not-ready f p ram rom r e = record { awake = λ z. absurd (z e); untraced = λ z. absurd (z e); reads = λ z. absurd (z e) }
+not-ready f p ram rom r e = record { awake = λ z. absurd (z e); closed = λ z. absurd (z e); native = λ z. absurd (z e); untraced = λ z. absurd (z e); reads = λ z. absurd (z e) }
 
-stirs : (p : List ℕ) → (getD p 3 0 % 2 ≡ 1 → ⊥) → marksAt p .halted ≡ false
+-- neither halted nor permitted
+stirs : (p : List ℕ) → getD p 3 0 ≤ 1 → (marksAt p .halted ≡ false) × (marksAt p .writable ≡ false)
 unfolding marksAt
-stirs p h = ne-eqb (getD p 3 0 % 2) 1 h
+stirs p h = (ne-eqb (getD p 3 0 / 2 % 2) 1 (λ e. omega arith), ne-eqb (getD p 3 0 / 4 % 2) 1 (λ e. omega arith))
 
-pub ready : (f p ram rom : List ℕ) (t : Bool) (ps pc w r : ℕ) → (getD p 3 0 % 2 ≡ 1 → ⊥) → t ≡ flagOf (getD f PSW 0) BRK → t ≡ false → ps ≡ getD f PS 0 → pc ≡ getD f PC 0
+neither : (a b : Bool) → (a || not b) ≡ false → (a ≡ false) × (b ≡ true)
+neither false true e = (refl, refl)
+neither false false e = absurd (true≢false e)
+neither true b e = absurd (true≢false e)
+
+pub ready : (f p ram rom : List ℕ) (t n : Bool) (ps pc w r : ℕ) → getD p 3 0 ≤ 1 → t ≡ flagOf (getD f PSW 0) BRK → n ≡ nativeOf (getD f PSW 0) → (t || not n) ≡ false → ps ≡ getD f PS 0 → pc ≡ getD f PC 0
     → Spells (codeByte ram rom ps pc) 0 8 w → Means w r → Ready f p ram rom r
-ready f p ram rom t ps pc w r h e k x y s (general z) = not-ready f p ram rom r z
-ready f p ram rom t ps pc w r h e k x y s (quick l d) =
-    record { awake = λ z. stirs p h; untraced = λ z. sym e ∙ k; reads = λ z. code-decodes w _ (instrOf r) (sizeOf r) (rw (x, y) at s) l d }
+ready f p ram rom t n ps pc w r h e m k x y s (general z) = not-ready f p ram rom r z
+ready f p ram rom t n ps pc w r h e m k x y s (quick l d) =
+    let (a, b) = neither t n k in
+    record { awake = λ z. stirs p h .0; closed = λ z. stirs p h .1; native = λ z. sym m ∙ b; untraced = λ z. sym e ∙ a; reads = λ z. code-decodes w _ (instrOf r) (sizeOf r) (rw (x, y) at s) l d }
 
 -- ---- the count and the marks
 
-pub begins : (p p′ : List ℕ) (c : ℕ) → Lent p → c ≡ risen rule (getD p 2 0) → c ≤ 4294967295 → p′ ≡ set (set p 2 c) 3 0 → Holds p′ (marksOf false false) (begunAt (progressAt p))
+pub begins : (p p′ : List ℕ) (c : ℕ) → Lent p → c ≡ risen rule (getD p 2 0) → c ≤ 4294967295 → p′ ≡ set (set p 2 c) 3 0 → Holds p′ (marksOf false false false) (begunAt (progressAt p))
 unfolding progressAt marksAt
 begins [] p′ c h e k q = absurd (let l = h .long in omega arith)
 begins (w ∷ []) p′ c h e k q = absurd (let l = h .long in omega arith)
@@ -95,22 +102,22 @@ loads-none : (r : ℕ) → loadsSegment (instrOf r) ≡ false
 unfolding instrOf
 loads-none r = plain-at (each r) (kindOf r)
 
-module _ (i : Instr) (size : ℕ) (f g ram ram′ rom tape log : List ℕ) (m : Marks) (q : Progress) (n : Bus) (awake : m .halted ≡ false) (plain : loadsSegment i ≡ false) (untraced : flagOf (getD f PSW 0) BRK ≡ false)
+module _ (i : Instr) (size : ℕ) (f g ram ram′ rom tape log : List ℕ) (m : Marks) (q : Progress) (n : Bus) (awake : m .halted ≡ false) (closed : m .writable ≡ false) (plain : loadsSegment i ≡ false) (untraced : flagOf (getD f PSW 0) BRK ≡ false)
     (p : OnMemory Bool (execute i size) f ram rom false g ram′ n 1020) where
-  performs : Performs (execute i size) f ram rom tape log (marksOf false false) (begunAt q) 0 false (marksOf false false) g ram′ log (begunAt q) n
-  performs = record { most = within-memory p; done = λ z. p .at (stateOf f (marksOf false false) (begunAt q)) tape log; stop = λ z. absurd (z refl); same = λ z. absurd (z refl) }
+  performs : Performs (execute i size) f ram rom tape log (marksOf false false false) (begunAt q) 0 false (marksOf false false false) g ram′ log (begunAt q) n
+  performs = record { most = within-memory p; done = λ z. p .at (stateOf f (marksOf false false false) (begunAt q)) tape log; stop = λ z. absurd (z refl); same = λ z. absurd (z refl) }
 
-  proceeds : Proceeds i size f ram rom tape log m q 0 (marksOf false false) (begunAt q) g ram′ log n
+  proceeds : Proceeds i size f ram rom tape log m q 0 (marksOf false false false) (begunAt q) g ram′ log n
   proceeds =
-      proceeds-done i size f g ram ram′ rom tape log log m (marksOf false false) (marksOf false false) q (begunAt q) (begunAt q) 0 false false n (rw untraced) (rw (awake, plain)) refl performs
-      0 (marksOf false false) (begunAt q) g ram′ n
-      (record { zero = refl; places = refl; last = nothing; sum = record { is = sym (no-last n); cycles = omega arith; dropped = omega arith }; finish = finishes-untraced false (marksOf false false) g ram′ rom nothing refl (record { is = refl }) })
+      proceeds-done i size f g ram ram′ rom tape log log m (marksOf false false false) (marksOf false false false) q (begunAt q) (begunAt q) 0 false false n (rw untraced) (rw (awake, plain, closed)) refl performs
+      0 (marksOf false false false) (begunAt q) g ram′ n
+      (record { zero = refl; places = refl; last = nothing; sum = record { is = sym (no-last n); cycles = omega arith; dropped = omega arith }; finish = finishes-untraced false (marksOf false false false) g ram′ rom nothing refl (record { is = refl }) })
       refl
 
-  pub quick-advances : Decodes instruction (codeByte ram rom (getD f PS 0) (getD f PC 0)) 0 (Known i size)
-      → Advances (stateOf f m q) ram rom tape log true 0 (stateOf g (marksOf false false) (begunAt q)) ram′ log n
-  quick-advances d =
-      advances-known f m q ram rom tape log (getD f PS 0) (getD f PC 0) refl refl awake (Known i size) d i size (record { done = true; number = 0; marks = marksOf false false; progress = begunAt q; bus = n }) g ram′ log refl
+  pub quick-advances : nativeOf (getD f PSW 0) ≡ true → Decodes instruction (codeByte ram rom (getD f PS 0) (getD f PC 0)) 0 (Known i size)
+      → Advances (stateOf f m q) ram rom tape log true 0 (stateOf g (marksOf false false false) (begunAt q)) ram′ log n
+  quick-advances native d =
+      advances-known f m q ram rom tape log awake (Known i size) (record { is = rw native d }) i size (record { done = true; number = 0; marks = marksOf false false false; progress = begunAt q; bus = n }) g ram′ log refl
       (record { told = refl; does = proceeds })
 
 -- ---- a turn's number
@@ -139,10 +146,10 @@ turned : (f g p p′ ram ram′ rom tape log log′ : List ℕ) (m : Marks) (q :
 turned f g p p′ ram ram′ rom tape log log′ m q x n a h e = rw e (record { lent = h .lent; does = rw (above n, number-done n, cost-done n, h .marks, h .progress) a })
 
 pub turns-quick : (f g p p′ ram ram′ rom tape log : List ℕ) (r x n : ℕ) → Ready f p ram rom r → (r ≡ 0 → ⊥) → OnMemory Bool (execute (instrOf r) (sizeOf r)) f ram rom false g ram′ (busAt n) 1020
-    → Holds p′ (marksOf false false) (begunAt (progressAt p)) → x ≡ 256 + n → Turns f p ram rom tape log x g p′ ram′ log
+    → Holds p′ (marksOf false false false) (begunAt (progressAt p)) → x ≡ 256 + n → Turns f p ram rom tape log x g p′ ram′ log
 turns-quick f g p p′ ram ram′ rom tape log r x n y z o h e =
-    turned f g p p′ ram ram′ rom tape log log (marksOf false false) (begunAt (progressAt p)) x n
-    (quick-advances (instrOf r) (sizeOf r) f g ram ram′ rom tape log (marksAt p) (progressAt p) (busAt n) (y .awake z) (loads-none r) (y .untraced z) o (y .reads z)) h e
+    turned f g p p′ ram ram′ rom tape log log (marksOf false false false) (begunAt (progressAt p)) x n
+    (quick-advances (instrOf r) (sizeOf r) f g ram ram′ rom tape log (marksAt p) (progressAt p) (busAt n) (y .awake z) (y .closed z) (loads-none r) (y .untraced z) o (y .native z) (y .reads z)) h e
 
 pub quick-fits : (i : Instr) (size : ℕ) (f g ram ram′ rom : List ℕ) (n : ℕ) → OnMemory Bool (execute i size) f ram rom false g ram′ (busAt n) 1020 → 256 + n < 18446744073709551616
 quick-fits i size f g ram ram′ rom n p = fits-above n (within-memory p) (lit≤ tt)

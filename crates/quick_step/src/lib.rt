@@ -10,16 +10,17 @@ ghost use Rattle.quick_stand.specs.Stand.{progressAt, Lent, Holds};
 ghost use Rattle.quick_step.specs.Ready.{Ready};
 ghost use Rattle.quick_step.specs.Turns.{Turns};
 
-// The reading of the instruction at PS:PC, or 0: a machine that is halted or traced takes the general path.
+// The reading of the instruction at PS:PC, or 0: a machine that is halted or traced, or that may be in the 8080 mode, takes the general path.
 fn next(file: &[u16; 14], stand: &[usize; 4], memo: &mut [u64; 2048], ram: &[u8], rom: &[u8]) -> u64
     requires { ⌜ Remembers (now memo) ⌝ }
     ensures { λ r. ⌜ Ready (now (file .entry)) (now (stand .entry)) (now (ram .entry)) (now (rom .entry)) r × Remembers (now (memo .exit)) ⌝ }
 {
-    if stand[3] % 2 == 1 {
+    if stand[3] > 1 {
         return 0;
     }
     let traced = calc_flags::brk(file[PSW]);
-    if traced {
+    let native = calc_flags::native(file[PSW]);
+    if traced | !native {
         return 0;
     }
     let ps = file[PS];
@@ -31,7 +32,7 @@ fn next(file: &[u16; 14], stand: &[usize; 4], memo: &mut [u64; 2048], ram: &[u8]
 // The count rises; no reading loads a segment register or halts.
 fn begin(stand: &mut [usize; 4])
     requires { ⌜ Lent (now stand) ⌝ }
-    ensures { λ _. ⌜ Holds (now (stand .exit)) (marksOf false false) (begunAt (progressAt (now (stand .entry)))) ⌝ }
+    ensures { λ _. ⌜ Holds (now (stand .exit)) (marksOf false false false) (begunAt (progressAt (now (stand .entry)))) ⌝ }
 {
     let count = step_one::count_on(stand[2] as u32);
     stand[2] = count as usize;
