@@ -1,7 +1,7 @@
 -- No instruction of the 8080 mode but CALLN and RETEM affects SP, IX, IY, AH or a segment register, where no single-step trap follows it.
 use Prim.Native.Nat.{ℕ, _/_, _%_}
 use mathlib.Core.Path.{_≡_, refl}
-use mathlib.Core.Bool.{Bool, true, false, not, _&&_}
+use mathlib.Core.Bool.{Bool, true, false, not, _&&_, true≢false}
 use mathlib.Core.List.{List}
 use Rattle.sheet.specs.declared.Bus.{Bus}
 use Rattle.sheet.specs.declared.Place.{Place}
@@ -22,7 +22,10 @@ use Rattle.sheet.specs.declared.cards.CardBranch.{CardBranch}
 use Rattle.sheet.specs.declared.cards.CardBranch.the-variants.{Jmp, JumpIf, Call, CallIf, Ret, RetIf, Rst, Pchl}
 use Rattle.sheet.specs.declared.cards.Card.{Card}
 use Rattle.sheet.specs.declared.Instr.{Instr}
-use Rattle.sheet.specs.declared.Instr.the-variants.{Cards}
+use Rattle.sheet.specs.declared.Instr.the-variants as instr
+use Rattle.sheet.specs.declared.Instr.the-variants.{Computes, Moves, Multiplies, Interrupts, Blocks, Ports, Controls, Cards}
+use Rattle.sheet.specs.declared.Primitive.{Primitive}
+use Rattle.sheet.specs.declared.Repeat.{Repeat}
 use Rattle.sheet.specs.Psw.{BRK, nativeOf, flagOf}
 use Rattle.sheet.specs.Registers.{AL, PS, PC, fileOf}
 use Rattle.sheet.specs.World.{World, pswOf}
@@ -301,3 +304,30 @@ unfolding starting exec run
 cards-unaffected w v t h g m e s n =
     let c = card-of (rw (s .read) at (cards-read w h g m)) in
     unaffected-by (rw (s .ran) at (of-stepping (s .size) c n (starting (s .instr) w) e))
+
+-- ---- block instructions are native
+
+isBlock : Instr → Bool
+isBlock (Computes i) = false
+isBlock (Moves i) = false
+isBlock (Multiplies i) = false
+isBlock (Interrupts i) = false
+isBlock (Blocks k b seg q) = true
+isBlock (Ports i) = false
+isBlock (Controls i) = false
+isBlock (instr.Modes i) = false
+isBlock (Cards i) = false
+
+no-block : {i : Instr} → IsCard i → isBlock i ≡ false
+unfolding isBlock
+no-block (is-card c) = refl
+
+-- so demand 3 is of native mode: in the other mode no bytes name one
+pub blocks-native : (w : World) (k : Primitive) (b : Bool) (seg : ℕ) (q : Repeat) (n : ℕ) → Bytes (w .ram) → Bytes (w .rom) → instructionIn w ≡ known (Blocks k b seg q) n
+    → nativeOf (pswOf (w .state)) ≡ true
+unfolding isBlock
+blocks-native w k b seg q n h g e = go (nativeOf (pswOf (w .state))) refl
+  where
+    go : (t : Bool) → nativeOf (pswOf (w .state)) ≡ t → t ≡ true
+    go true m = refl
+    go false m = absurd (true≢false (no-block (card-of (rw e at (cards-read w h g m)))))
