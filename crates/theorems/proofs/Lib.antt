@@ -11,6 +11,7 @@ pub mod RepeatSingles
 pub mod Repeat
 pub mod RepeatOnce
 pub mod RepeatExample
+pub mod RepeatModes
 pub mod RepeatWrong
 pub mod RepeatCode
 pub mod RepeatEnds

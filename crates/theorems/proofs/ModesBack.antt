@@ -23,8 +23,7 @@ use Rattle.sheet.specs.Mode.{popReturn, retem, brkem}
 use Rattle.sheet.proofs.PswLaws.{flag-pack, flag-settled, fixed-mode, native-mode, same-psw}
 use Rattle.sheet.proofs.Lent.{writeMem-length}
 use Rattle.theorems.specs.Repeat.{left, reg}
-use Rattle.theorems.specs.Modes.{StackInRam, stacked, SameStack, GivenBack}
-use Rattle.theorems.proofs.Widths.{Under}
+use Rattle.theorems.specs.Modes.{pushedBytes, Breaking, stacked, SameStack, GivenBack}
 use Rattle.theorems.proofs.RepeatFile.{fourteen}
 
 -- ---- what BRKEM leaves
@@ -145,7 +144,15 @@ higher-six o = ap (λ (y : ℕ). add16 y 2) (same-offset o) ∙ last
 
 -- the offsets of the three words, the lowest last pushed
 module _ (sp : ℕ) (l : sp < 65536) where
-  offsets : record { z : sub16 (sub16 (sub16 sp 2) 2) 2 ≡ add16 (sub16 sp 6) 0; a : next (sub16 (sub16 (sub16 sp 2) 2) 2) ≡ add16 (sub16 sp 6) 1; b : sub16 (sub16 sp 2) 2 ≡ add16 (sub16 sp 6) 2; c : next (sub16 (sub16 sp 2) 2) ≡ add16 (sub16 sp 6) 3; d : sub16 sp 2 ≡ add16 (sub16 sp 6) 4; e : next (sub16 sp 2) ≡ add16 (sub16 sp 6) 5 }
+  record Offsets : Type 0 where
+    z : sub16 (sub16 (sub16 sp 2) 2) 2 ≡ add16 (sub16 sp 6) 0
+    a : next (sub16 (sub16 (sub16 sp 2) 2) 2) ≡ add16 (sub16 sp 6) 1
+    b : sub16 (sub16 sp 2) 2 ≡ add16 (sub16 sp 6) 2
+    c : next (sub16 (sub16 sp 2) 2) ≡ add16 (sub16 sp 6) 3
+    d : sub16 sp 2 ≡ add16 (sub16 sp 6) 4
+    e : next (sub16 sp 2) ≡ add16 (sub16 sp 6) 5
+
+  offsets : Offsets
   offsets = record {
     z = lower-six sp l ∙ still;
     a = ap (λ (y : ℕ). next y) (lower-six sp l);
@@ -170,7 +177,12 @@ module _ (sp : ℕ) (l : sp < 65536) where
       five : next (sub16 sp 2) ≡ add16 (sub16 sp 6) 5
       five = omega arith
 
-  above : record { none : add16 (sub16 (sub16 (sub16 sp 2) 2) 2) 0 ≡ sub16 (sub16 (sub16 sp 2) 2) 2; two : add16 (sub16 (sub16 (sub16 sp 2) 2) 2) 2 ≡ sub16 (sub16 sp 2) 2; four : add16 (sub16 (sub16 (sub16 sp 2) 2) 2) 4 ≡ sub16 sp 2 }
+  record Above : Type 0 where
+    none : add16 (sub16 (sub16 (sub16 sp 2) 2) 2) 0 ≡ sub16 (sub16 (sub16 sp 2) 2) 2
+    two : add16 (sub16 (sub16 (sub16 sp 2) 2) 2) 2 ≡ sub16 (sub16 sp 2) 2
+    four : add16 (sub16 (sub16 (sub16 sp 2) 2) 2) 4 ≡ sub16 sp 2
+
+  above : Above
   above = omega arith
 
   -- what three pops undo
@@ -187,7 +199,7 @@ clear o p l e = ((λ q. omega arith), (λ q. omega arith), (λ q. omega arith), 
 clear-of-both : (o p : ℕ) → o < 65536 → p ≡ add16 o 4 → (o ≢ p) × (o ≢ next p) × (next o ≢ p) × (next o ≢ next p)
 clear-of-both o p l e = ((λ q. omega arith), (λ q. omega arith), (λ q. omega arith), (λ q. omega arith))
 
-module _ (ram rom : List ℕ) (g sp psw ps pc : ℕ) (l : sp < 65536) (room : (j : ℕ) → j < 6 → physical g (add16 (sub16 sp 6) j) < length ram) where
+module _ (ram rom : List ℕ) (g sp psw ps pc : ℕ) (l : sp < 65536) (room : (j : ℕ) → j < pushedBytes → physical g (add16 (sub16 sp 6) j) < length ram) where
   first-pushed : List ℕ
   first-pushed = writeMem true ram g (sub16 sp 2) psw
 
@@ -197,7 +209,7 @@ module _ (ram rom : List ℕ) (g sp psw ps pc : ℕ) (l : sp < 65536) (room : (j
   all-pushed : List ℕ
   all-pushed = writeMem true second-pushed g (sub16 (sub16 (sub16 sp 2) 2) 2) pc
 
-  inside : (o j : ℕ) → j < 6 → o ≡ add16 (sub16 sp 6) j → physical g o < length ram
+  inside : (o j : ℕ) → j < pushedBytes → o ≡ add16 (sub16 sp 6) j → physical g o < length ram
   inside o j h e = rw e (room j h)
 
   first-long : length first-pushed ≡ length ram
@@ -240,13 +252,14 @@ sixteen-bits : (x : ℕ) → x ≤ 65535 → x < 65536
 sixteen-bits x h = omega arith
 
 -- BRKEM from native mode with room on the stack, then code that keeps SS, SP and the three words, then RETEM
-module _ (vector : ℕ) (w u x y : World) (s t : List Event) (whole : length (w .state .file) ≡ 14) (words : Under 65535 (w .state .file)) (fixed : fixedOf (pswOf (w .state)) ≡ true) (native : nativeOf (pswOf (w .state)) ≡ true) (room : StackInRam w)
-    (broke : run (brkem vector) w ≡ done tt u s) (kept : SameStack u x) (still : length (x .state .file) ≡ 14) (returned : run retem x ≡ done tt y t) where
+module _
+    (vector : ℕ) (w u x y : World) (s t : List Event) (start : Breaking w) (broke : run (brkem vector) w ≡ done tt u s) (kept : SameStack u x)
+    (returned : run retem x ≡ done tt y t) where
   saved : Saved w u
-  saved = subst (λ (z : World). Saved w z) (ap (left w) broke) (saves vector (w .state .marks) (w .state .progress) (w .ram) (w .rom) (w .tape) (w .log) (w .state .file) whole)
+  saved = subst (λ (z : World). Saved w z) (ap (left w) broke) (saves vector (w .state .marks) (w .state .progress) (w .ram) (w .rom) (w .tape) (w .log) (w .state .file) (start .whole))
 
   sp-low : reg w SP < 65536
-  sp-low = sixteen-bits _ (words SP)
+  sp-low = sixteen-bits _ (start .words SP)
 
   at-top : reg x SP ≡ sub16 (sub16 (top w 2) 2) 2
   at-top = kept .sp ∙ saved .sp
@@ -254,32 +267,32 @@ module _ (vector : ℕ) (w u x y : World) (s t : List Event) (whole : length (w 
   taken : Taken x y
   taken =
       let low : getD (x .state .file) SP 0 < 65536 = rw at-top (omega arith) in
-      subst (λ (z : World). Taken x z) (ap (left x) returned) (takes (x .state .marks) (x .state .progress) (x .ram) (x .rom) (x .tape) (x .log) (x .state .file) still low)
+      subst (λ (z : World). Taken x z) (ap (left x) returned) (takes (x .state .marks) (x .state .progress) (x .ram) (x .rom) (x .tape) (x .log) (x .state .file) (kept .whole) low)
 
   pc-back : stacked u 0 ≡ reg w PC
   unfolding all-pushed second-pushed first-pushed
   pc-back =
       rw (saved .ram, saved .rom, saved .ss, saved .sp, above (reg w SP) sp-low .none)
-      (pc-there (w .ram) (w .rom) (reg w SS) (reg w SP) (wrapOf true (pswOf (w .state))) (reg w PS) (reg w PC) sp-low room (sixteen-bits _ (words PC)))
+      (pc-there (w .ram) (w .rom) (reg w SS) (reg w SP) (wrapOf true (pswOf (w .state))) (reg w PS) (reg w PC) sp-low (start .room) (sixteen-bits _ (start .words PC)))
 
   ps-back : stacked u 2 ≡ reg w PS
   unfolding all-pushed second-pushed first-pushed
   ps-back =
       rw (saved .ram, saved .rom, saved .ss, saved .sp, above (reg w SP) sp-low .two)
-      (ps-there (w .ram) (w .rom) (reg w SS) (reg w SP) (wrapOf true (pswOf (w .state))) (reg w PS) (reg w PC) sp-low room (sixteen-bits _ (words PS)))
+      (ps-there (w .ram) (w .rom) (reg w SS) (reg w SP) (wrapOf true (pswOf (w .state))) (reg w PS) (reg w PC) sp-low (start .room) (sixteen-bits _ (start .words PS)))
 
   psw-back : stacked u 4 ≡ pswOf (w .state)
   unfolding all-pushed second-pushed first-pushed
   psw-back =
-      let low = sixteen-bits _ (words PSW) in
+      let low = sixteen-bits _ (start .words PSW) in
       rw (saved .ram, saved .rom, saved .ss, saved .sp, above (reg w SP) sp-low .four)
-      (psw-there (w .ram) (w .rom) (reg w SS) (reg w SP) (wrapOf true (pswOf (w .state))) (reg w PS) (reg w PC) sp-low room (rw (wrapped _ low) low) ∙ wrapped _ low)
+      (psw-there (w .ram) (w .rom) (reg w SS) (reg w SP) (wrapOf true (pswOf (w .state))) (reg w PS) (reg w PC) sp-low (start .room) (rw (wrapped _ low) low) ∙ wrapped _ low)
 
   pub retem-gives-back : GivenBack w y
   retem-gives-back = record {
     ps = taken .ps ∙ kept .second ∙ ps-back;
     pc = taken .pc ∙ kept .first ∙ pc-back;
-    psw = taken .psw ∙ rw (kept .third, psw-back) (restored-whole (pswOf (w .state)) (pswOf (x .state)) fixed native);
+    psw = taken .psw ∙ rw (kept .third, psw-back) (restored-whole (pswOf (w .state)) (pswOf (x .state)) (start .fixed) (start .native));
     sp = taken .sp ∙ rw at-top (popped (reg w SP) sp-low);
     locked = taken .locked;
   }

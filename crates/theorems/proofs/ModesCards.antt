@@ -1,7 +1,7 @@
 -- No instruction of the 8080 mode but CALLN and RETEM affects SP, IX, IY, AH or a segment register, where no single-step trap follows it.
 use Prim.Native.Nat.{ℕ, _/_, _%_}
-use mathlib.Core.Path.{_≡_, refl, _∙_}
-use mathlib.Core.Bool.{Bool, true, false, not, _&&_}
+use mathlib.Core.Path.{_≡_, refl}
+use mathlib.Core.Bool.{Bool, true, false, not, _&&_, true≢false}
 use mathlib.Core.List.{List}
 use Rattle.sheet.specs.declared.Bus.{Bus}
 use Rattle.sheet.specs.declared.Place.{Place}
@@ -20,18 +20,19 @@ use Rattle.sheet.specs.declared.cards.CardPoint.{CardPoint}
 use Rattle.sheet.specs.declared.cards.CardPoint.the-variants.{Ldax, Stax}
 use Rattle.sheet.specs.declared.cards.CardBranch.{CardBranch}
 use Rattle.sheet.specs.declared.cards.CardBranch.the-variants.{Jmp, JumpIf, Call, CallIf, Ret, RetIf, Rst, Pchl}
-use Rattle.sheet.specs.declared.cards.CardMode.{CardMode}
 use Rattle.sheet.specs.declared.cards.Card.{Card}
-use Rattle.sheet.specs.declared.cards.Card.the-variants.{Modes}
 use Rattle.sheet.specs.declared.Instr.{Instr}
-use Rattle.sheet.specs.declared.Instr.the-variants.{Cards}
+use Rattle.sheet.specs.declared.Instr.the-variants as instr
+use Rattle.sheet.specs.declared.Instr.the-variants.{Computes, Moves, Multiplies, Interrupts, Blocks, Ports, Controls, Cards}
+use Rattle.sheet.specs.declared.Primitive.{Primitive}
+use Rattle.sheet.specs.declared.Repeat.{Repeat}
 use Rattle.sheet.specs.Psw.{BRK, nativeOf, flagOf}
 use Rattle.sheet.specs.Registers.{AL, PS, PC, fileOf}
 use Rattle.sheet.specs.World.{World, pswOf}
 use Rattle.sheet.specs.Act.{Act, pure, _>>=_, flag}
 use Rattle.sheet.specs.Handler.{Event, kept, nothing, run}
 use Rattle.sheet.specs.Contract.{exec, ends}
-use Rattle.sheet.specs.Reading.{Read, known, scan}
+use Rattle.sheet.specs.Reading.{known}
 use Rattle.sheet.specs.Operand.{regValue, setReg, locate, fetch, deposit, valueAt, sourceValue}
 use Rattle.sheet.specs.Arithmetic.{Result, finish, conclude, one}
 use Rattle.sheet.specs.Shift.{carryIn}
@@ -55,7 +56,7 @@ use Rattle.theorems.specs.Bounds.{Bytes}
 use Rattle.theorems.specs.Modes.{Unaffected, NotMode}
 use Rattle.theorems.proofs.Widths.{byte-top}
 use Rattle.theorems.proofs.BoundsReading.{ScannedTo, read, scanned}
-use Rattle.theorems.proofs.CardsRead.{CardRegister, is-b, is-c, is-d, is-e, is-h, is-l, is-a, CardPair, is-bc, is-de, is-hl, is-sp, CardPlace, of-register, of-pair, of-memory, Named, All, no-more, _then_, chosen, of-cardInstruction}
+use Rattle.theorems.proofs.CardsRead.{CardRegister, is-b, is-c, is-d, is-e, is-h, is-l, is-a, CardPair, is-bc, is-de, is-hl, is-sp, CardPlace, of-register, of-pair, of-memory, Named, no-more, _then_, chosen, of-cardInstruction}
 use Rattle.theorems.proofs.CardsRead as named
 use Rattle.theorems.proofs.ModesRules.{Left, left-so, plus-left, Spares, seq, either, of-pure, of-get, of-registers, of-set, of-al, of-flag, of-psw, of-flags, of-peek, of-poke, of-halted, of-inp, of-out}
 
@@ -303,3 +304,30 @@ unfolding starting exec run
 cards-unaffected w v t h g m e s n =
     let c = card-of (rw (s .read) at (cards-read w h g m)) in
     unaffected-by (rw (s .ran) at (of-stepping (s .size) c n (starting (s .instr) w) e))
+
+-- ---- block instructions are native
+
+isBlock : Instr → Bool
+isBlock (Computes i) = false
+isBlock (Moves i) = false
+isBlock (Multiplies i) = false
+isBlock (Interrupts i) = false
+isBlock (Blocks k b seg q) = true
+isBlock (Ports i) = false
+isBlock (Controls i) = false
+isBlock (instr.Modes i) = false
+isBlock (Cards i) = false
+
+no-block : {i : Instr} → IsCard i → isBlock i ≡ false
+unfolding isBlock
+no-block (is-card c) = refl
+
+-- so demand 3 is of native mode: in the other mode no bytes name one
+pub blocks-native : (w : World) (k : Primitive) (b : Bool) (seg : ℕ) (q : Repeat) (n : ℕ) → Bytes (w .ram) → Bytes (w .rom) → instructionIn w ≡ known (Blocks k b seg q) n
+    → nativeOf (pswOf (w .state)) ≡ true
+unfolding isBlock
+blocks-native w k b seg q n h g e = go (nativeOf (pswOf (w .state))) refl
+  where
+    go : (t : Bool) → nativeOf (pswOf (w .state)) ≡ t → t ≡ true
+    go true m = refl
+    go false m = absurd (true≢false (no-block (card-of (rw e at (cards-read w h g m)))))

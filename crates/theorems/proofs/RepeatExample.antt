@@ -124,7 +124,7 @@ pub restores : Restores Mine after-one back
 restores = record { registers = refl; kept = same-bytes }
 
 -- the targets, 84 to 86, are none of the instruction's bytes, 64 to 66
-own-low : (a c : ℕ) → c < 3 → a ≡ codeAt 0 64 c → a < 67
+pub own-low : (a c : ℕ) → c < 3 → a ≡ codeAt 0 64 c → a < 67
 own-low a c h e = omega arith
 
 pub apart : NeverOnItself move3 start

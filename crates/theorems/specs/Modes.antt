@@ -1,5 +1,5 @@
 -- What is said of the two modes.
-use Prim.Native.Nat.{ℕ, _/_, _<_}
+use Prim.Native.Nat.{ℕ, _/_, _≤_, _<_}
 use mathlib.Core.Path.{_≡_}
 use mathlib.Core.Bool.{true, false}
 use mathlib.Core.List.{List}
@@ -11,7 +11,7 @@ use Rattle.sheet.specs.declared.cards.CardMode.{CardMode}
 use Rattle.sheet.specs.declared.cards.Card.the-variants as cards
 use Rattle.sheet.specs.declared.Mode.the-variants.{Brkem}
 use Rattle.sheet.specs.Width.{add16, sub16}
-use Rattle.sheet.specs.Psw.{nativeOf}
+use Rattle.sheet.specs.Psw.{nativeOf, fixedOf}
 use Rattle.sheet.specs.Registers.{AW, SP, IX, IY, DS1, PS, SS, DS0, PC}
 use Rattle.sheet.specs.Memory.{physical, readMem}
 use Rattle.sheet.specs.World.{World, pswOf}
@@ -28,16 +28,29 @@ NotBrkem i = (vector : ℕ) → i ≢ Modes (Brkem vector)
 
 -- ---- from BRKEM to RETEM
 
+-- PSW, PS and PC
+abbrev pub pushedBytes : ℕ
+pushedBytes = 6
+
 -- the native stack has room in RAM for the three words that BRKEM pushes
 abbrev pub StackInRam : World → Type 0
-StackInRam w = (j : ℕ) → j < 6 → physical (reg w SS) (add16 (sub16 (reg w SP) 6) j) < length (w .ram)
+StackInRam w = (j : ℕ) → j < pushedBytes → physical (reg w SS) (add16 (sub16 (reg w SP) 6) j) < length (w .ram)
+
+-- where BRKEM begins: fourteen words of sixteen bits, a good PSW, native mode, room on the stack
+pub record Breaking (w : World) : Type 0 where
+  pub whole : length (w .state .file) ≡ 14
+  pub words : (i : ℕ) → getD (w .state .file) i 0 ≤ 65535
+  pub fixed : fixedOf (pswOf (w .state)) ≡ true
+  pub native : nativeOf (pswOf (w .state)) ≡ true
+  pub room : StackInRam w
 
 -- a word of the native stack, n bytes above its top
 abbrev pub stacked : World → ℕ → ℕ
 stacked w n = readMem true (w .ram) (w .rom) (reg w SS) (add16 (reg w SP) n)
 
--- SS, SP and the three words at its top are in v as in u
+-- SS, SP and the three words at its top are in v as in u; v has fourteen words
 pub record SameStack (u v : World) : Type 0 where
+  pub whole : length (v .state .file) ≡ 14
   pub ss : reg v SS ≡ reg u SS
   pub sp : reg v SP ≡ reg u SP
   pub first : stacked v 0 ≡ stacked u 0
