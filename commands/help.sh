@@ -21,7 +21,7 @@ v30 trace ROM [..]     the same with a line for each step: address, instruction,
     --drops            of them only those that dropped a byte: they wrote it where there is no RAM
 v30 log FILE           lists a port log; a + behind a number of steps says: at least so many
     --old              a log of the old kind, whose gaps stop at three groups; without it one that v30 run wrote, with five
-v30 rom ROM            lists the instructions of a ROM image of at most 32768 bytes
+v30 rom ROM            lists the native instructions of a ROM image of at most 32768 bytes
     --read             to be read: routines, labels, loops, and a plain sentence beside each instruction
     --html             the same as a page for a browser or on paper; it needs -o
     --notes FILE       names and comments for it; reading/README.md says how they are written

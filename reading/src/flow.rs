@@ -101,6 +101,7 @@ mod tests {
         assert_eq!(ways_of("NOP"), [on]);
         assert_eq!(ways_of("HALT"), [on]);
         assert_eq!(ways_of("BRK 21"), [on]);
+        assert_eq!(ways_of("BRKEM 40"), [on]);
         assert_eq!(ways_of("BE FFF20"), [on, (Kind::Branches, 0xFFF20)]);
         assert_eq!(ways_of("BR FFF20"), [(Kind::Branches, 0xFFF20)]);
         assert_eq!(ways_of("BR FFF0:0030"), [(Kind::Branches, 0xFFF30)]);

@@ -2,7 +2,6 @@
 
 #![forbid(unsafe_code)]
 
-pub mod cards;
 mod execute;
 pub mod gap_rule;
 pub mod intel_hex;

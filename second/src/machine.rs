@@ -1,6 +1,5 @@
 //! The public calls: step, run, interrupt and reset; and what every instruction uses.
 
-use crate::cards::{Cards, CARDS};
 use crate::memory::Memory;
 use crate::portlog::Record;
 use crate::refusal::Refusal;
@@ -39,8 +38,6 @@ pub(crate) enum GoOnWhile {
 
 pub struct Machine<'a> {
     pub state: State,
-    /// As the programs are built, unless someone says otherwise.
-    pub cards: Cards,
     pub(crate) memory: Memory<'a>,
     tape: &'a [u8],
     log: &'a mut [u8],
@@ -100,7 +97,6 @@ impl<'a> Machine<'a> {
         let now = Now::at(state.pc);
         Machine {
             state,
-            cards: CARDS,
             memory: Memory::new(ram, rom),
             tape,
             log,

@@ -2,10 +2,10 @@
 // Where the room does not do, what is left of the line means nothing; who builds a line knows that it is short enough.
 ghost use mathlib.Core.List.{[], _∷_};
 ghost use Rattle.base_text.specs.Text.{hex};
-ghost use Rattle.base_line.specs.Adds.{Adds};
+ghost use Rattle.base_line.specs.Adds.{AddsTo};
 
 pub fn put_byte(line: &mut [u8; 80], at: usize, b: u8) -> usize
-    ensures { λ r. ⌜ Adds (b ∷ []) (now (line .entry)) at r (now (line .exit)) ⌝ }
+    ensures { λ r. ⌜ AddsTo (b ∷ []) line at r ⌝ }
 {
     if at < 80 {
         line[at] = b;
@@ -15,7 +15,7 @@ pub fn put_byte(line: &mut [u8; 80], at: usize, b: u8) -> usize
 }
 
 pub fn put_word(line: &mut [u8; 80], at: usize, x: &[u8]) -> usize
-    ensures { λ r. ⌜ Adds (now (x .entry)) (now (line .entry)) at r (now (line .exit)) ⌝ }
+    ensures { λ r. ⌜ AddsTo (now (x .entry)) line at r ⌝ }
 {
     let mut end = at;
     let mut i = 0;
@@ -28,7 +28,7 @@ pub fn put_word(line: &mut [u8; 80], at: usize, x: &[u8]) -> usize
 
 // The low w hex digits of n.
 pub fn put_hex(line: &mut [u8; 80], at: usize, n: u64, w: usize) -> usize
-    ensures { λ r. ⌜ Adds (hex w n) (now (line .entry)) at r (now (line .exit)) ⌝ }
+    ensures { λ r. ⌜ AddsTo (hex w n) line at r ⌝ }
 {
     if w == 0 {
         return at;

@@ -1,4 +1,5 @@
-// Results of bytes with the flags of the uPD8080AF: sums, differences, bitwise results, DAA, rotates. V stays. No function here has a precondition.
+// Results of bytes with the flags of the uPD8080AF: sums, differences, bitwise results, DAA, rotates. V stays.
+// No function here has a precondition.
 ghost use mathlib.Core.Path.{_≡_};
 ghost use mathlib.Core.Bool.{true, false};
 ghost use Rattle.sheet.specs.Psw.{AC, CY, flagOf, blank};

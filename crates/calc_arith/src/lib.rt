@@ -1,4 +1,5 @@
-// Addition, subtraction, the bitwise operations, INC, DEC, NOT and NEG, at either width and with all flags. No function here has a precondition.
+// Addition, subtraction, the bitwise operations, INC, DEC, NOT and NEG, at either width and with all flags.
+// No function here has a precondition.
 ghost use mathlib.Core.Path.{_≡_};
 ghost use mathlib.Core.Bool.{false};
 ghost use Rattle.sheet.specs.Psw.{CY, flagOf, becomes};
@@ -115,7 +116,7 @@ fn invert(word: bool, a: u16, psw: u16) -> Flagged
 {
     Flagged {
         value: wrap(word, 131071 - a as u32),
-        psw: calc_psw::restore(psw),
+        psw: calc_psw::restore(psw, psw),
     }
 }
 

@@ -1,6 +1,6 @@
-// PSW in code: its flags one by one and together, and its fixed bits. No function here has a precondition.
+// PSW in code: its flags one by one and together, MD, and its fixed bits. No function here has a precondition.
 ghost use mathlib.Core.Path.{_≡_};
-ghost use Rattle.sheet.specs.Psw.{CY, P, AC, Z, S, BRK, IE, DIR, OV, flagOf, pack, fixedOf};
+ghost use Rattle.sheet.specs.Psw.{CY, P, AC, Z, S, BRK, IE, DIR, OV, flagOf, nativeOf, pack, fixedOf};
 ghost use Rattle.calc_flags.specs.Flags.{held, unpacked};
 use calc_word::digit;
 
@@ -70,6 +70,13 @@ pub fn v(psw: u16) -> bool
     psw / 2048 % 2 == 1
 }
 
+// MD.
+pub fn native(psw: u16) -> bool
+    ensures { λ r. ⌜ r ≡ nativeOf psw ⌝ }
+{
+    psw / 32768 % 2 == 1
+}
+
 // All nine, whatever the fixed bits are.
 pub fn unpack(psw: u16) -> Flags
     ensures { λ r. ⌜ r ≡ unpacked psw ⌝ }
@@ -87,11 +94,12 @@ pub fn unpack(psw: u16) -> Flags
     }
 }
 
-// PSW of the flags, with its fixed bits.
-pub fn pack(f: Flags) -> u16
-    ensures { λ r. ⌜ r ≡ pack (held f) ⌝ }
+// PSW of MD and the flags, with its fixed bits.
+pub fn pack(md: bool, f: Flags) -> u16
+    ensures { λ r. ⌜ r ≡ pack md (held f) ⌝ }
 {
-    61442
+    28674
+        + 32768 * digit(md)
         + 1 * digit(f.cy)
         + 4 * digit(f.p)
         + 16 * digit(f.ac)
@@ -107,5 +115,5 @@ pub fn pack(f: Flags) -> u16
 pub fn fixed(psw: u16) -> bool
     ensures { λ r. ⌜ r ≡ fixedOf psw ⌝ }
 {
-    psw == pack(unpack(psw))
+    psw == pack(native(psw), unpack(psw))
 }

@@ -1,7 +1,8 @@
 // Shifts and rotates at either width, by the fixed 1 and by a count. No function here has a precondition.
 ghost use mathlib.Core.Path.{_≡_};
 ghost use Rattle.sheet.specs.Psw.{CY, flagOf, becomes};
-ghost use Rattle.sheet.specs.Shift.{leftward, comesIn, toLeft, toRight, onePlace, manyPlaces, signMoves, rotated, shifted, turned, shiftOne, shiftMany};
+ghost use Rattle.sheet.specs.Shift.{leftward, comesIn, toLeft, toRight, onePlace, manyPlaces};
+ghost use Rattle.sheet.specs.Shift.{signMoves, rotated, shifted, turned, shiftOne, shiftMany};
 ghost use Rattle.sheet.specs.Contract.{flagged};
 ghost use Rattle.calc_shift.specs.Carry.{carried};
 use calc_word::choose;

@@ -1,4 +1,5 @@
-// The two widths of an operand in code: `word` is the sheet's bit W, true for a word and false for a byte. No function here has a precondition.
+// The two widths of an operand in code: `word` is the sheet's bit W, true for a word and false for a byte.
+// No function here has a precondition.
 ghost use mathlib.Core.Path.{_≡_};
 ghost use Prim.Native.Nat.{_≤_};
 ghost use Rattle.sheet.specs.Width.{pick, modOf, halfOf, bytesOf, wrapOf, signOf, evenOf, add16, sub16, extend};

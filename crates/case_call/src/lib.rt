@@ -4,10 +4,10 @@ use sheet::Bus;
 use sheet::GapRule;
 use sheet::State;
 ghost use mathlib.Core.Path.{_≡_};
-ghost use Rattle.step_calls.specs.Calls.{Interrupts};
-ghost use Rattle.engine.specs.Steps.{Steps};
-ghost use Rattle.engine.specs.Runs.{Runs};
-ghost use Rattle.case_call.specs.Called.{stepsOf, resetAs, bytesOf, laid, Called, Result, Reading};
+ghost use Rattle.step_calls.specs.Lent.{InterruptsOn};
+ghost use Rattle.engine.specs.Lent.{StepsOn, RunsOn};
+ghost use Rattle.case_call.specs.Called.{stepsOf, resetAs, bytesOf, laid, Reading};
+ghost use Rattle.case_call.specs.Lent.{CalledOn, ResultOn};
 
 // What the calls on the machine come to.
 struct Done {
@@ -26,7 +26,7 @@ fn steps_of(number: u8) -> u32
 
 fn stepped(s: State, ram: &mut [u8], rom: &[u8], tape: &[u8], log: &mut [u8]) -> Done
     ensures { λ r. ⌜ r .steps ≡ stepsOf (r .number) ⌝ }
-    ensures { λ r. ⌜ Steps s (now (ram .entry)) (now (rom .entry)) (now (tape .entry)) (now (log .entry)) (r .number) (r .state) (now (ram .exit)) (now (log .exit)) (r .bus) ⌝ }
+    ensures { λ r. ⌜ StepsOn s ram rom tape log (r .number) (r .state) (r .bus) ⌝ }
 {
     let a = engine::step(s, ram, rom, tape, log);
     let state = a.state;
@@ -40,7 +40,7 @@ fn stepped(s: State, ram: &mut [u8], rom: &[u8], tape: &[u8], log: &mut [u8]) ->
 }
 
 fn ran(s: State, ram: &mut [u8], rom: &[u8], tape: &[u8], log: &mut [u8], budget: u16) -> Done
-    ensures { λ r. ⌜ Runs budget s (now (ram .entry)) (now (rom .entry)) (now (tape .entry)) (now (log .entry)) (r .number) (r .state) (now (ram .exit)) (now (log .exit)) (r .steps) (r .bus) ⌝ }
+    ensures { λ r. ⌜ RunsOn budget s ram rom tape log (r .number) (r .state) (r .steps) (r .bus) ⌝ }
 {
     let a = engine::run(s, ram, rom, tape, log, budget);
     let state = a.state;
@@ -54,7 +54,7 @@ fn ran(s: State, ram: &mut [u8], rom: &[u8], tape: &[u8], log: &mut [u8], budget
 }
 
 fn quickly(s: State, ram: &mut [u8], rom: &[u8], tape: &[u8], log: &mut [u8], budget: u16) -> Done
-    ensures { λ r. ⌜ Runs budget s (now (ram .entry)) (now (rom .entry)) (now (tape .entry)) (now (log .entry)) (r .number) (r .state) (now (ram .exit)) (now (log .exit)) (r .steps) (r .bus) ⌝ }
+    ensures { λ r. ⌜ RunsOn budget s ram rom tape log (r .number) (r .state) (r .steps) (r .bus) ⌝ }
 {
     let a = quick_run::run(s, ram, rom, tape, log, budget);
     let state = a.state;
@@ -77,7 +77,7 @@ fn interrupted(
     maskable: bool,
 ) -> Done
     ensures { λ r. ⌜ r .steps ≡ 0 ⌝ }
-    ensures { λ r. ⌜ Interrupts vector maskable s (now (ram .entry)) (now (rom .entry)) (now (tape .entry)) (now (log .entry)) (r .number) (r .state) (now (ram .exit)) (r .bus) ⌝ }
+    ensures { λ r. ⌜ InterruptsOn vector maskable s ram rom tape log (r .number) (r .state) (r .bus) ⌝ }
 {
     let a = step_calls::interrupt(s, ram, rom, tape, log, vector, maskable);
     let state = a.state;
@@ -104,7 +104,7 @@ fn reset() -> Done
 
 // The call of a case, of those on the machine.
 fn called(s: State, ram: &mut [u8], rom: &[u8], tape: &[u8], log: &mut [u8], c: Case) -> Done
-    ensures { λ r. ⌜ Called c s (now (ram .entry)) (now (rom .entry)) (now (tape .entry)) (now (log .entry)) r (now (ram .exit)) (now (log .exit)) ⌝ }
+    ensures { λ r. ⌜ CalledOn c s ram rom tape log r ⌝ }
 {
     let call = c.call;
     match call {
@@ -139,7 +139,7 @@ pub fn result(
     log: &mut [u8],
     c: Case,
 ) -> [u8; 88]
-    ensures { λ r. ⌜ Result c s (now (ram .entry)) (now (rom .entry)) (now (tape .entry)) (now (log .entry)) (now (ram .exit)) (now (log .exit)) r ⌝ }
+    ensures { λ r. ⌜ ResultOn c s ram rom tape log r ⌝ }
 {
     let d = called(s, ram, rom, tape, log, c);
     bytes_of(d, ram, log)

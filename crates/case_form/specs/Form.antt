@@ -16,11 +16,11 @@ use Rattle.sheet.specs.declared.Entry.the-variants.{Record, End, Malformed, Bey
 use Rattle.case_bytes.specs.Numbers.{wordAt, doubleAt, wordPut, doublePut}
 use Rattle.case_form.specs.declared.Case.{Case}
 
--- the rules for a header's bytes: call, halted, masking, the mark of a segment load and the gap rule; zero in the permission and in the
--- flags marked undefined, whose requests are not built, and in the last six bytes
+-- the rules for a header's bytes: call, halted, masking, the mark of a segment load, the permission and the gap rule; zero in the flags
+-- marked undefined, whose request is not built, and in the last six bytes
 unfoldable pub goodHeader : List ℕ → Bool
 goodHeader header =
-    leb (getD header 0 0) 5 && (leb (getD header 1 0) 1 && (leb (getD header 2 0) 1 && (leb (getD header 61 0) 1 && (eqb (getD header 62 0) 0 && (leb (getD header 63 0) 1 && (eqb (wordAt header 64) 0 && (eqb (wordAt header 66) 0 && eqb (doubleAt header 68) 0)))))))
+    leb (getD header 0 0) 5 && (leb (getD header 1 0) 1 && (leb (getD header 2 0) 1 && (leb (getD header 61 0) 1 && (leb (getD header 62 0) 1 && (leb (getD header 63 0) 1 && (eqb (wordAt header 64) 0 && (eqb (wordAt header 66) 0 && eqb (doubleAt header 68) 0)))))))
 
 -- where the register file has the stream's register i: eight general ones, PS, SS, DS0, DS1, PC, PSW
 unfoldable pub placeOf : ℕ → ℕ
@@ -35,7 +35,7 @@ unfoldable pub stateOf : List ℕ → State
 stateOf header =
     record {
       file = fileOf header 14;
-      marks = record { halted = not (eqb (getD header 1 0) 0); loaded = not (eqb (getD header 61 0) 0) };
+      marks = record { halted = not (eqb (getD header 1 0) 0); loaded = not (eqb (getD header 61 0) 0); writable = not (eqb (getD header 62 0) 0) };
       progress = record { tape = doubleAt header 34; log = doubleAt header 38; count = doubleAt header 42 };
     }
 
@@ -61,7 +61,8 @@ caseOf header =
 
 -- a result with the answer, the marks and the steps done put in
 unfoldable pub withAnswer : ℕ → Marks → ℕ → List ℕ → List ℕ
-withAnswer number marks steps l = doublePut (set (set (set l 0 number) 1 (boolByte (marks .halted))) 70 (boolByte (marks .loaded))) 2 steps
+withAnswer number marks steps l =
+    doublePut (set (set (set (set l 0 number) 1 (boolByte (marks .halted))) 70 (boolByte (marks .loaded))) 71 (boolByte (marks .writable))) 2 steps
 
 -- with the bus cycles and the dropped bytes put in
 unfoldable pub withTally : Bus → List ℕ → List ℕ

@@ -11,7 +11,8 @@ use sheet::Progress;
 use sheet::State;
 ghost use mathlib.Core.Path.{_≡_};
 ghost use Prim.Native.Nat.{_<_};
-ghost use Rattle.case_form.specs.Form.{placeOf, goodHeader, fileOf, stateOf, ruleOf, caseOf, withFile, withAnswer, withTally, withPlaces, withCall, withSums, withRecord, withEntry};
+ghost use Rattle.case_form.specs.Form.{placeOf, goodHeader, fileOf, stateOf, ruleOf, caseOf, withFile, withAnswer, withTally};
+ghost use Rattle.case_form.specs.Form.{withPlaces, withCall, withSums, withRecord, withEntry};
 
 // ---- the header
 
@@ -26,7 +27,7 @@ pub fn good_header(header: &[u8; 72]) -> bool
         & ((header[1] <= 1)
             & ((header[2] <= 1)
                 & ((header[61] <= 1)
-                    & ((header[62] == 0)
+                    & ((header[62] <= 1)
                         & ((header[63] <= 1) & ((undefined == 0) & ((low == 0) & (high == 0))))))))
 }
 
@@ -74,6 +75,7 @@ pub fn state_of(header: &[u8; 72]) -> State
         marks: Marks {
             halted: header[1] != 0,
             loaded: header[61] != 0,
+            writable: header[62] != 0,
         },
         progress: Progress {
             tape: tape as usize,
@@ -142,6 +144,7 @@ fn put_answer(out: &mut [u8; 88], number: u8, marks: Marks, steps: u32)
     out[0] = number;
     out[1] = marks.halted as u8;
     out[70] = marks.loaded as u8;
+    out[71] = marks.writable as u8;
     put_double(out, 2, steps);
 }
 

@@ -10,7 +10,7 @@ use sheet::Stack;
 ghost use mathlib.Core.Path.{_≡_};
 ghost use Prim.Native.Nat.{_%_, _≤_, _<_};
 ghost use Rattle.sheet.specs.Reading.{got};
-ghost use Rattle.sheet.specs.Step.{codeByte};
+ghost use Rattle.code_answer.specs.Lent.{lentCode};
 ghost use Rattle.sheet.specs.FirstByte.{withPlace, twoPlaces, bytes00};
 ghost use Rattle.code_answer.specs.Answer.{Decodes, Names};
 
@@ -29,7 +29,7 @@ fn two_places(
     i: u16,
 ) -> Decoded
     requires { ⌜ i ≤ 4 ⌝ }
-    ensures { λ r. ⌜ Decodes (withPlace p (λ reg a. got (twoPlaces op b reg a))) (codeByte (now (ram .entry)) (now (rom .entry)) ps pc) i r ⌝ }
+    ensures { λ r. ⌜ Decodes (withPlace p (λ reg a. got (twoPlaces op b reg a))) (lentCode ram rom ps pc) i r ⌝ }
 {
     let o = code_operand::operands(ram, rom, ps, pc, p, i);
     let place = o.place;
@@ -56,7 +56,7 @@ fn two_places(
 // 07, 0F, 17, .. 3F.
 fn column7(ram: &[u8], rom: &[u8], ps: u16, pc: u16, p: Prefixes, b: u8, i: u16) -> Decoded
     requires { ⌜ (b < 0x40) × ((b % 8 ≡ 7) × (i ≤ 4)) ⌝ }
-    ensures { λ r. ⌜ Names (bytes00 p) b (codeByte (now (ram .entry)) (now (rom .entry)) ps pc) i r ⌝ }
+    ensures { λ r. ⌜ Names (bytes00 p) b (lentCode ram rom ps pc) i r ⌝ }
 {
     if b == 0x0f {
         let second = code_bytes::code_byte(ram, rom, ps, pc, i);
@@ -76,7 +76,7 @@ fn column7(ram: &[u8], rom: &[u8], ps: u16, pc: u16, p: Prefixes, b: u8, i: u16)
 
 pub fn codes00(ram: &[u8], rom: &[u8], ps: u16, pc: u16, p: Prefixes, b: u8, i: u16) -> Decoded
     requires { ⌜ (b < 0x40) × (i ≤ 4) ⌝ }
-    ensures { λ r. ⌜ Names (bytes00 p) b (codeByte (now (ram .entry)) (now (rom .entry)) ps pc) i r ⌝ }
+    ensures { λ r. ⌜ Names (bytes00 p) b (lentCode ram rom ps pc) i r ⌝ }
 {
     let n = b % 8;
     if n < 6 {

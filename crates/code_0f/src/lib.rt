@@ -1,4 +1,4 @@
-// The second bytes after 0F: bits, decimal strings and digits, bit fields.
+// The second bytes after 0F: bits, decimal strings and digits, bit fields, BRKEM.
 use code_answer::Decoded;
 use sheet::Amount;
 use sheet::Bit;
@@ -6,15 +6,16 @@ use sheet::Compute;
 use sheet::Decimal;
 use sheet::Field;
 use sheet::Length;
+use sheet::Mode;
 use sheet::Prefixes;
 ghost use Prim.Native.Nat.{_≤_, _<_};
 ghost use Rattle.sheet.specs.Groups.{Decimals};
 ghost use Rattle.sheet.specs.declared.Decimal.the-variants.{Rol4, Ror4};
 ghost use Rattle.sheet.specs.Width.{pick};
 ghost use Rattle.sheet.specs.Reading.{got};
-ghost use Rattle.sheet.specs.Step.{codeByte};
-ghost use Rattle.sheet.specs.SecondByte.{withPlain, fieldInRegister, fieldGiven, secondBytes};
+ghost use Rattle.sheet.specs.SecondByte.{withPlain, fieldInRegister, fieldGiven, breakForEmulation, secondBytes};
 ghost use Rattle.code_answer.specs.Answer.{Decodes, Names};
+ghost use Rattle.code_answer.specs.Lent.{lentCode};
 ghost use Rattle.code_0f.specs.Fields.{fieldOf};
 
 // The number of DS0.
@@ -23,7 +24,7 @@ const DS0: u8 = 3;
 // 10 to 1F: one bit of a place, whose number is in CL or follows.
 fn bits(ram: &[u8], rom: &[u8], ps: u16, pc: u16, p: Prefixes, b: u8, i: u16) -> Decoded
     requires { ⌜ (0x10 ≤ b) × ((b < 0x20) × (i ≤ 5)) ⌝ }
-    ensures { λ r. ⌜ Names (secondBytes p) b (codeByte (now (ram .entry)) (now (rom .entry)) ps pc) i r ⌝ }
+    ensures { λ r. ⌜ Names (secondBytes p) b (lentCode ram rom ps pc) i r ⌝ }
 {
     let o = code_operand::operands(ram, rom, ps, pc, p, i);
     if o.reg != 0 {
@@ -63,7 +64,7 @@ fn bits(ram: &[u8], rom: &[u8], ps: u16, pc: u16, p: Prefixes, b: u8, i: u16) ->
 // ROL4 and ROR4.
 fn rotated(ram: &[u8], rom: &[u8], ps: u16, pc: u16, p: Prefixes, left: bool, i: u16) -> Decoded
     requires { ⌜ i ≤ 5 ⌝ }
-    ensures { λ r. ⌜ Decodes (withPlain p (λ to. Decimals (pick left (Rol4 to) (Ror4 to)))) (codeByte (now (ram .entry)) (now (rom .entry)) ps pc) i r ⌝ }
+    ensures { λ r. ⌜ Decodes (withPlain p (λ to. Decimals (pick left (Rol4 to) (Ror4 to)))) (lentCode ram rom ps pc) i r ⌝ }
 {
     let o = code_operand::operands(ram, rom, ps, pc, p, i);
     if o.reg != 0 {
@@ -90,7 +91,9 @@ fn field(
     i: u16,
 ) -> Decoded
     requires { ⌜ i ≤ 5 ⌝ }
-    ensures { λ r. ⌜ Decodes (pick given (fieldGiven (λ o l. got (fieldOf ext seg o l))) (fieldInRegister (λ o l. got (fieldOf ext seg o l)))) (codeByte (now (ram .entry)) (now (rom .entry)) ps pc) i r ⌝ }
+    ensures { λ r. ⌜ Decodes
+        (pick given (fieldGiven (λ o l. got (fieldOf ext seg o l))) (fieldInRegister (λ o l. got (fieldOf ext seg o l))))
+        (lentCode ram rom ps pc) i r ⌝ }
 {
     let m = code_bytes::code_byte(ram, rom, ps, pc, i);
     if m / 64 != 3 {
@@ -121,9 +124,18 @@ fn field(
     code_answer::computes(Compute::Fields(group), next)
 }
 
+// FF: BRKEM.
+fn emulation(ram: &[u8], rom: &[u8], ps: u16, pc: u16, i: u16) -> Decoded
+    requires { ⌜ i ≤ 5 ⌝ }
+    ensures { λ r. ⌜ Decodes breakForEmulation (lentCode ram rom ps pc) i r ⌝ }
+{
+    let vector = code_bytes::code_byte(ram, rom, ps, pc, i);
+    code_answer::modes(Mode::Brkem { vector: vector }, i + 1)
+}
+
 pub fn codes0f(ram: &[u8], rom: &[u8], ps: u16, pc: u16, p: Prefixes, b: u8, i: u16) -> Decoded
     requires { ⌜ i ≤ 5 ⌝ }
-    ensures { λ r. ⌜ Names (secondBytes p) b (codeByte (now (ram .entry)) (now (rom .entry)) ps pc) i r ⌝ }
+    ensures { λ r. ⌜ Names (secondBytes p) b (lentCode ram rom ps pc) i r ⌝ }
 {
     if b < 0x10 {
         return Decoded::Unknown { number: 3 };
@@ -140,6 +152,7 @@ pub fn codes0f(ram: &[u8], rom: &[u8], ps: u16, pc: u16, p: Prefixes, b: u8, i: 
         0x28 | 0x2a => return rotated(ram, rom, ps, pc, p, b == 0x28, i),
         0x31 | 0x33 => return field(ram, rom, ps, pc, b == 0x33, false, source, i),
         0x39 | 0x3b => return field(ram, rom, ps, pc, b == 0x3b, true, source, i),
+        0xff => return emulation(ram, rom, ps, pc, i),
         _ => return Decoded::Unknown { number: 3 },
     };
     code_answer::computes(Compute::Decimals(group), i)

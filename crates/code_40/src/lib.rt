@@ -14,13 +14,13 @@ ghost use Rattle.sheet.specs.declared.Instr.the-variants.{Multiplies, Interrupt
 ghost use Rattle.sheet.specs.declared.Multiply.the-variants.{MulByte, MulWord};
 ghost use Rattle.sheet.specs.declared.Interrupt.the-variants.{Chkind};
 ghost use Rattle.sheet.specs.Width.{pick};
-ghost use Rattle.sheet.specs.Step.{codeByte};
+ghost use Rattle.code_answer.specs.Lent.{lentCode};
 ghost use Rattle.sheet.specs.FirstByte.{withPlace, withMemory, withWord, withShort, bytes40};
 ghost use Rattle.code_answer.specs.Answer.{Decodes, Names};
 
 fn chkind(ram: &[u8], rom: &[u8], ps: u16, pc: u16, p: Prefixes, i: u16) -> Decoded
     requires { ⌜ i ≤ 4 ⌝ }
-    ensures { λ r. ⌜ Decodes (withMemory p (λ reg a. Interrupts (Chkind reg a))) (codeByte (now (ram .entry)) (now (rom .entry)) ps pc) i r ⌝ }
+    ensures { λ r. ⌜ Decodes (withMemory p (λ reg a. Interrupts (Chkind reg a))) (lentCode ram rom ps pc) i r ⌝ }
 {
     let o = code_operand::operands(ram, rom, ps, pc, p, i);
     let place = o.place;
@@ -40,7 +40,9 @@ fn chkind(ram: &[u8], rom: &[u8], ps: u16, pc: u16, p: Prefixes, i: u16) -> Deco
 // By a word, or by a byte with its sign.
 fn multiply(ram: &[u8], rom: &[u8], ps: u16, pc: u16, p: Prefixes, word: bool, i: u16) -> Decoded
     requires { ⌜ i ≤ 4 ⌝ }
-    ensures { λ r. ⌜ Decodes (withPlace p (λ reg a. pick word (withWord (λ v. Multiplies (MulWord reg a v))) (withShort (λ v. Multiplies (MulByte reg a v))))) (codeByte (now (ram .entry)) (now (rom .entry)) ps pc) i r ⌝ }
+    ensures { λ r. ⌜ Decodes
+        (withPlace p (λ reg a. pick word (withWord (λ v. Multiplies (MulWord reg a v))) (withShort (λ v. Multiplies (MulByte reg a v)))))
+        (lentCode ram rom ps pc) i r ⌝ }
 {
     let o = code_operand::operands(ram, rom, ps, pc, p, i);
     let place = o.place;
@@ -68,7 +70,7 @@ fn multiply(ram: &[u8], rom: &[u8], ps: u16, pc: u16, p: Prefixes, word: bool, i
 
 fn codes60(ram: &[u8], rom: &[u8], ps: u16, pc: u16, p: Prefixes, b: u8, i: u16) -> Decoded
     requires { ⌜ (0x60 ≤ b) × ((b < 0x70) × (i ≤ 4)) ⌝ }
-    ensures { λ r. ⌜ Names (bytes40 p) b (codeByte (now (ram .entry)) (now (rom .entry)) ps pc) i r ⌝ }
+    ensures { λ r. ⌜ Names (bytes40 p) b (lentCode ram rom ps pc) i r ⌝ }
 {
     if 0x6e <= b {
         return code_operand::block(p, Primitive::Outm, b, i);
@@ -102,7 +104,7 @@ fn codes60(ram: &[u8], rom: &[u8], ps: u16, pc: u16, p: Prefixes, b: u8, i: u16)
 
 pub fn codes40(ram: &[u8], rom: &[u8], ps: u16, pc: u16, p: Prefixes, b: u8, i: u16) -> Decoded
     requires { ⌜ (0x40 ≤ b) × ((b < 0x80) × (i ≤ 4)) ⌝ }
-    ensures { λ r. ⌜ Names (bytes40 p) b (codeByte (now (ram .entry)) (now (rom .entry)) ps pc) i r ⌝ }
+    ensures { λ r. ⌜ Names (bytes40 p) b (lentCode ram rom ps pc) i r ⌝ }
 {
     if b < 0x50 {
         let op = if b < 0x48 { Unary::Inc } else { Unary::Dec };

@@ -12,7 +12,7 @@ ghost use Rattle.sheet.specs.Groups.{Transfers, Stacks};
 ghost use Rattle.sheet.specs.declared.Transfer.the-variants.{Ldea};
 ghost use Rattle.sheet.specs.declared.Stack.the-variants.{Pop};
 ghost use Rattle.sheet.specs.Width.{pick};
-ghost use Rattle.sheet.specs.Step.{codeByte};
+ghost use Rattle.code_answer.specs.Lent.{lentCode};
 ghost use Rattle.sheet.specs.SecondByte.{withPlain};
 ghost use Rattle.sheet.specs.FirstByte.{smallImmediate, withImmediate, withMemory, fromSegment, toSegment, bytes80};
 ghost use Rattle.code_answer.specs.Answer.{Takes, Decodes, Names};
@@ -20,7 +20,7 @@ ghost use Rattle.code_answer.specs.Answer.{Takes, Decodes, Names};
 // The immediate of 80 to 83.
 fn small_immediate(ram: &[u8], rom: &[u8], ps: u16, pc: u16, b: u8, i: u16) -> NumberRead
     requires { ⌜ i ≤ 8 ⌝ }
-    ensures { λ r. ⌜ Takes ℕ (smallImmediate b) (codeByte (now (ram .entry)) (now (rom .entry)) ps pc) i (r .value) (r .next) 2 ⌝ }
+    ensures { λ r. ⌜ Takes ℕ (smallImmediate b) (lentCode ram rom ps pc) i (r .value) (r .next) 2 ⌝ }
 {
     if b == 0x81 {
         return NumberRead {
@@ -42,7 +42,7 @@ fn small_immediate(ram: &[u8], rom: &[u8], ps: u16, pc: u16, b: u8, i: u16) -> N
 
 fn with_immediate(ram: &[u8], rom: &[u8], ps: u16, pc: u16, p: Prefixes, b: u8, i: u16) -> Decoded
     requires { ⌜ i ≤ 4 ⌝ }
-    ensures { λ r. ⌜ Decodes (withImmediate p b) (codeByte (now (ram .entry)) (now (rom .entry)) ps pc) i r ⌝ }
+    ensures { λ r. ⌜ Decodes (withImmediate p b) (lentCode ram rom ps pc) i r ⌝ }
 {
     let o = code_operand::operands(ram, rom, ps, pc, p, i);
     let place = o.place;
@@ -62,7 +62,7 @@ fn with_immediate(ram: &[u8], rom: &[u8], ps: u16, pc: u16, p: Prefixes, b: u8, 
 // 84 to 8B: a register and a place.
 fn two_places(ram: &[u8], rom: &[u8], ps: u16, pc: u16, p: Prefixes, b: u8, i: u16) -> Decoded
     requires { ⌜ (0x84 ≤ b) × ((b < 0x8c) × (i ≤ 4)) ⌝ }
-    ensures { λ r. ⌜ Names (bytes80 p) b (codeByte (now (ram .entry)) (now (rom .entry)) ps pc) i r ⌝ }
+    ensures { λ r. ⌜ Names (bytes80 p) b (lentCode ram rom ps pc) i r ⌝ }
 {
     let o = code_operand::operands(ram, rom, ps, pc, p, i);
     let place = o.place;
@@ -108,7 +108,7 @@ fn with_segment(
     i: u16,
 ) -> Decoded
     requires { ⌜ i ≤ 4 ⌝ }
-    ensures { λ r. ⌜ Decodes (pick load (toSegment p) (fromSegment p)) (codeByte (now (ram .entry)) (now (rom .entry)) ps pc) i r ⌝ }
+    ensures { λ r. ⌜ Decodes (pick load (toSegment p) (fromSegment p)) (lentCode ram rom ps pc) i r ⌝ }
 {
     let o = code_operand::operands(ram, rom, ps, pc, p, i);
     let place = o.place;
@@ -134,7 +134,7 @@ fn with_segment(
 
 fn ldea(ram: &[u8], rom: &[u8], ps: u16, pc: u16, p: Prefixes, i: u16) -> Decoded
     requires { ⌜ i ≤ 4 ⌝ }
-    ensures { λ r. ⌜ Decodes (withMemory p (λ reg a. Transfers (Ldea reg a))) (codeByte (now (ram .entry)) (now (rom .entry)) ps pc) i r ⌝ }
+    ensures { λ r. ⌜ Decodes (withMemory p (λ reg a. Transfers (Ldea reg a))) (lentCode ram rom ps pc) i r ⌝ }
 {
     let o = code_operand::operands(ram, rom, ps, pc, p, i);
     let place = o.place;
@@ -153,7 +153,7 @@ fn ldea(ram: &[u8], rom: &[u8], ps: u16, pc: u16, p: Prefixes, i: u16) -> Decode
 
 fn pop(ram: &[u8], rom: &[u8], ps: u16, pc: u16, p: Prefixes, i: u16) -> Decoded
     requires { ⌜ i ≤ 4 ⌝ }
-    ensures { λ r. ⌜ Decodes (withPlain p (λ a. Stacks (Pop a))) (codeByte (now (ram .entry)) (now (rom .entry)) ps pc) i r ⌝ }
+    ensures { λ r. ⌜ Decodes (withPlain p (λ a. Stacks (Pop a))) (lentCode ram rom ps pc) i r ⌝ }
 {
     let o = code_operand::operands(ram, rom, ps, pc, p, i);
     let place = o.place;
@@ -165,7 +165,7 @@ fn pop(ram: &[u8], rom: &[u8], ps: u16, pc: u16, p: Prefixes, i: u16) -> Decoded
 
 pub fn codes80(ram: &[u8], rom: &[u8], ps: u16, pc: u16, p: Prefixes, b: u8, i: u16) -> Decoded
     requires { ⌜ (0x80 ≤ b) × ((b < 0x90) × (i ≤ 4)) ⌝ }
-    ensures { λ r. ⌜ Names (bytes80 p) b (codeByte (now (ram .entry)) (now (rom .entry)) ps pc) i r ⌝ }
+    ensures { λ r. ⌜ Names (bytes80 p) b (lentCode ram rom ps pc) i r ⌝ }
 {
     if b < 0x84 {
         return with_immediate(ram, rom, ps, pc, p, b, i);

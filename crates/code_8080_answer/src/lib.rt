@@ -1,4 +1,5 @@
-// What bytes name in the 8080 mode, one constructor for each group, and what the fields of its codes name. No function here has a precondition.
+// What bytes name in the 8080 mode, one constructor for each group, and what the fields of its codes name.
+// No function here has a precondition.
 use sheet::Address;
 use sheet::Control;
 use sheet::Io;

@@ -4,6 +4,7 @@ use sheet::Arithmetic;
 use sheet::Branch;
 use sheet::Control;
 use sheet::Convert;
+use sheet::Mode;
 use sheet::Place;
 use sheet::Prefixes;
 use sheet::Primitive;
@@ -11,7 +12,7 @@ use sheet::Source;
 use sheet::Stack;
 use sheet::Transfer;
 ghost use Prim.Native.Nat.{_≤_, _<_};
-ghost use Rattle.sheet.specs.Step.{codeByte};
+ghost use Rattle.code_answer.specs.Lent.{lentCode};
 ghost use Rattle.sheet.specs.FirstByte.{bytes80};
 ghost use Rattle.code_answer.specs.Answer.{Names};
 
@@ -20,7 +21,7 @@ const ACC: u8 = 0;
 
 fn codes98(ram: &[u8], rom: &[u8], ps: u16, pc: u16, p: Prefixes, b: u8, i: u16) -> Decoded
     requires { ⌜ (0x98 ≤ b) × ((b < 0xa0) × (i ≤ 4)) ⌝ }
-    ensures { λ r. ⌜ Names (bytes80 p) b (codeByte (now (ram .entry)) (now (rom .entry)) ps pc) i r ⌝ }
+    ensures { λ r. ⌜ Names (bytes80 p) b (lentCode ram rom ps pc) i r ⌝ }
 {
     if b < 0x9a {
         let group = if b == 0x98 {
@@ -43,13 +44,11 @@ fn codes98(ram: &[u8], rom: &[u8], ps: u16, pc: u16, p: Prefixes, b: u8, i: u16)
     if b == 0x9b {
         return Decoded::Unknown { number: 3 };
     }
-    if b < 0x9e {
-        let group = if b == 0x9c {
-            Stack::PushPsw
-        } else {
-            Stack::PopPsw
-        };
-        return code_answer::stacks(group, i);
+    if b == 0x9c {
+        return code_answer::stacks(Stack::PushPsw, i);
+    }
+    if b == 0x9d {
+        return code_answer::modes(Mode::PopPsw, i);
     }
     let group = if b == 0x9e {
         Transfer::PswFromAh
@@ -62,7 +61,7 @@ fn codes98(ram: &[u8], rom: &[u8], ps: u16, pc: u16, p: Prefixes, b: u8, i: u16)
 // A0 to A3: the accumulator and a byte or word at a 16-bit address.
 fn acc_memory(ram: &[u8], rom: &[u8], ps: u16, pc: u16, p: Prefixes, b: u8, i: u16) -> Decoded
     requires { ⌜ (0xa0 ≤ b) × ((b < 0xa4) × (i ≤ 4)) ⌝ }
-    ensures { λ r. ⌜ Names (bytes80 p) b (codeByte (now (ram .entry)) (now (rom .entry)) ps pc) i r ⌝ }
+    ensures { λ r. ⌜ Names (bytes80 p) b (lentCode ram rom ps pc) i r ⌝ }
 {
     let offset = code_bytes::code_word(ram, rom, ps, pc, i);
     let address = code_operand::direct(p, offset);
@@ -83,7 +82,7 @@ fn acc_memory(ram: &[u8], rom: &[u8], ps: u16, pc: u16, p: Prefixes, b: u8, i: u
 
 fn codesa0(ram: &[u8], rom: &[u8], ps: u16, pc: u16, p: Prefixes, b: u8, i: u16) -> Decoded
     requires { ⌜ (0xa0 ≤ b) × ((b < 0xb0) × (i ≤ 4)) ⌝ }
-    ensures { λ r. ⌜ Names (bytes80 p) b (codeByte (now (ram .entry)) (now (rom .entry)) ps pc) i r ⌝ }
+    ensures { λ r. ⌜ Names (bytes80 p) b (lentCode ram rom ps pc) i r ⌝ }
 {
     if b < 0xa4 {
         return acc_memory(ram, rom, ps, pc, p, b, i);
@@ -113,7 +112,7 @@ fn codesa0(ram: &[u8], rom: &[u8], ps: u16, pc: u16, p: Prefixes, b: u8, i: u16)
 // B0 to BF: a register and an immediate.
 fn load_register(ram: &[u8], rom: &[u8], ps: u16, pc: u16, p: Prefixes, b: u8, i: u16) -> Decoded
     requires { ⌜ (0xb0 ≤ b) × ((b < 0xc0) × (i ≤ 4)) ⌝ }
-    ensures { λ r. ⌜ Names (bytes80 p) b (codeByte (now (ram .entry)) (now (rom .entry)) ps pc) i r ⌝ }
+    ensures { λ r. ⌜ Names (bytes80 p) b (lentCode ram rom ps pc) i r ⌝ }
 {
     let word = 0xb8 <= b;
     let v = code_bytes::code_immediate(ram, rom, ps, pc, word, i);
@@ -129,7 +128,7 @@ fn load_register(ram: &[u8], rom: &[u8], ps: u16, pc: u16, p: Prefixes, b: u8, i
 
 pub fn codes90(ram: &[u8], rom: &[u8], ps: u16, pc: u16, p: Prefixes, b: u8, i: u16) -> Decoded
     requires { ⌜ (0x90 ≤ b) × ((b < 0xc0) × (i ≤ 4)) ⌝ }
-    ensures { λ r. ⌜ Names (bytes80 p) b (codeByte (now (ram .entry)) (now (rom .entry)) ps pc) i r ⌝ }
+    ensures { λ r. ⌜ Names (bytes80 p) b (lentCode ram rom ps pc) i r ⌝ }
 {
     if b < 0x91 {
         return code_answer::controls(Control::Nop, i);

@@ -1,4 +1,5 @@
-// What bytes name, by the groups of section 8: one constructor for each that several crates name, since an instruction is a large value to the prover.
+// What bytes name, by the groups of section 8: one constructor for each that several crates name, since an instruction is a large
+// value to the prover.
 use sheet::Arithmetic;
 use sheet::Branch;
 use sheet::Compute;
@@ -8,6 +9,7 @@ use sheet::Convert;
 use sheet::Instr;
 use sheet::Interrupt;
 use sheet::Io;
+use sheet::Mode;
 use sheet::Move;
 use sheet::Multiply;
 use sheet::Place;
@@ -18,7 +20,7 @@ use sheet::Shift;
 use sheet::Stack;
 use sheet::Transfer;
 ghost use mathlib.Core.Path.{_≡_};
-ghost use Rattle.sheet.specs.declared.Instr.the-variants.{Computes, Moves, Multiplies, Interrupts, Ports, Controls, Blocks};
+ghost use Rattle.sheet.specs.declared.Instr.the-variants.{Computes, Moves, Multiplies, Interrupts, Ports, Controls, Blocks, Modes};
 ghost use Rattle.sheet.specs.Groups.{Transfers, Calculates, Converts, Stacks, Branches, Tests, Shifts};
 ghost use Rattle.code_answer.specs.declared.Decoded.the-variants.{Known as KnownIs};
 
@@ -43,6 +45,15 @@ fn moves(group: Move, size: u16) -> Decoded
 {
     Decoded::Known {
         instr: Instr::Moves(group),
+        size: size,
+    }
+}
+
+pub fn modes(group: Mode, size: u16) -> Decoded
+    ensures { λ r. ⌜ r ≡ KnownIs (Modes group) size ⌝ }
+{
+    Decoded::Known {
+        instr: Instr::Modes(group),
         size: size,
     }
 }

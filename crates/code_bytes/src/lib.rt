@@ -1,7 +1,7 @@
 // Code bytes, one after the other: the source is RAM, ROM, PS and PC, and i says how many were read so far.
 ghost use Prim.Native.Nat.{ℕ, _+_, _≤_};
 ghost use Rattle.sheet.specs.Reading.{byte, word as wordRead, signedByte, immediate as immediateRead};
-ghost use Rattle.sheet.specs.Step.{codeByte};
+ghost use Rattle.code_answer.specs.Lent.{lentCode};
 ghost use Rattle.sheet.specs.Contract.{Reads};
 ghost use Rattle.code_answer.specs.Answer.{Takes};
 
@@ -18,7 +18,7 @@ pub struct FarRead {
 }
 
 pub fn code_byte(ram: &[u8], rom: &[u8], ps: u16, pc: u16, i: u16) -> u8
-    ensures { λ r. ⌜ Reads ℕ byte (codeByte (now (ram .entry)) (now (rom .entry)) ps pc) i r (i + 1) ⌝ }
+    ensures { λ r. ⌜ Reads ℕ byte (lentCode ram rom ps pc) i r (i + 1) ⌝ }
 {
     mach_memory::read_byte(ram, rom, ps, std::num::wrapping_add_u16(pc, i))
 }
@@ -26,7 +26,7 @@ pub fn code_byte(ram: &[u8], rom: &[u8], ps: u16, pc: u16, i: u16) -> u8
 // Low byte first.
 pub fn code_word(ram: &[u8], rom: &[u8], ps: u16, pc: u16, i: u16) -> u16
     requires { ⌜ i ≤ 8 ⌝ }
-    ensures { λ r. ⌜ Reads ℕ wordRead (codeByte (now (ram .entry)) (now (rom .entry)) ps pc) i r (i + 2) ⌝ }
+    ensures { λ r. ⌜ Reads ℕ wordRead (lentCode ram rom ps pc) i r (i + 2) ⌝ }
 {
     let low = code_byte(ram, rom, ps, pc, i) as u16;
     let high = code_byte(ram, rom, ps, pc, i + 1) as u16;
@@ -35,7 +35,7 @@ pub fn code_word(ram: &[u8], rom: &[u8], ps: u16, pc: u16, i: u16) -> u16
 
 // A byte widened with its sign.
 pub fn code_short(ram: &[u8], rom: &[u8], ps: u16, pc: u16, i: u16) -> u16
-    ensures { λ r. ⌜ Reads ℕ signedByte (codeByte (now (ram .entry)) (now (rom .entry)) ps pc) i r (i + 1) ⌝ }
+    ensures { λ r. ⌜ Reads ℕ signedByte (lentCode ram rom ps pc) i r (i + 1) ⌝ }
 {
     let b = code_byte(ram, rom, ps, pc, i) as u16;
     if b < 128 { b } else { b + 65280 }
@@ -44,7 +44,7 @@ pub fn code_short(ram: &[u8], rom: &[u8], ps: u16, pc: u16, i: u16) -> u16
 // An immediate of a width.
 pub fn code_immediate(ram: &[u8], rom: &[u8], ps: u16, pc: u16, word: bool, i: u16) -> NumberRead
     requires { ⌜ i ≤ 8 ⌝ }
-    ensures { λ r. ⌜ Takes ℕ (immediateRead word) (codeByte (now (ram .entry)) (now (rom .entry)) ps pc) i (r .value) (r .next) 2 ⌝ }
+    ensures { λ r. ⌜ Takes ℕ (immediateRead word) (lentCode ram rom ps pc) i (r .value) (r .next) 2 ⌝ }
 {
     if word {
         return NumberRead {
@@ -61,7 +61,8 @@ pub fn code_immediate(ram: &[u8], rom: &[u8], ps: u16, pc: u16, word: bool, i: u
 // Four bytes: the offset, then the segment.
 pub fn code_far(ram: &[u8], rom: &[u8], ps: u16, pc: u16, i: u16) -> FarRead
     requires { ⌜ i ≤ 6 ⌝ }
-    ensures { λ r. ⌜ Reads ℕ wordRead (codeByte (now (ram .entry)) (now (rom .entry)) ps pc) i (r .offset) (i + 2) × Reads ℕ wordRead (codeByte (now (ram .entry)) (now (rom .entry)) ps pc) (i + 2) (r .segment) (i + 4) ⌝ }
+    ensures { λ r. ⌜ Reads ℕ wordRead (lentCode ram rom ps pc) i (r .offset) (i + 2)
+        × Reads ℕ wordRead (lentCode ram rom ps pc) (i + 2) (r .segment) (i + 4) ⌝ }
 {
     FarRead {
         offset: code_word(ram, rom, ps, pc, i),

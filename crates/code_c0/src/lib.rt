@@ -3,6 +3,7 @@ use code_answer::Decoded;
 use sheet::Amount;
 use sheet::Branch;
 use sheet::Interrupt;
+use sheet::Mode;
 use sheet::Place;
 use sheet::Places;
 use sheet::Prefixes;
@@ -12,7 +13,7 @@ use sheet::Transfer;
 ghost use Prim.Native.Nat.{_≤_, _<_};
 ghost use Rattle.sheet.specs.Groups.{Transfers};
 ghost use Rattle.sheet.specs.declared.Transfer.the-variants.{LoadPointer};
-ghost use Rattle.sheet.specs.Step.{codeByte};
+ghost use Rattle.code_answer.specs.Lent.{lentCode};
 ghost use Rattle.sheet.specs.FirstByte.{withMemory, withCounted, shiftGroup, bytesC0};
 ghost use Rattle.code_answer.specs.Answer.{Decodes, Names};
 
@@ -24,7 +25,7 @@ const DS0: u8 = 3;
 // C0 and C1: the count follows.
 fn shift_given(ram: &[u8], rom: &[u8], ps: u16, pc: u16, p: Prefixes, b: u8, i: u16) -> Decoded
     requires { ⌜ i ≤ 4 ⌝ }
-    ensures { λ r. ⌜ Decodes (shiftGroup p withCounted b) (codeByte (now (ram .entry)) (now (rom .entry)) ps pc) i r ⌝ }
+    ensures { λ r. ⌜ Decodes (shiftGroup p withCounted b) (lentCode ram rom ps pc) i r ⌝ }
 {
     let o = code_operand::operands(ram, rom, ps, pc, p, i);
     let place = o.place;
@@ -44,7 +45,7 @@ fn shift_given(ram: &[u8], rom: &[u8], ps: u16, pc: u16, p: Prefixes, b: u8, i: 
 
 fn load_pointer(ram: &[u8], rom: &[u8], ps: u16, pc: u16, p: Prefixes, seg: u8, i: u16) -> Decoded
     requires { ⌜ i ≤ 4 ⌝ }
-    ensures { λ r. ⌜ Decodes (withMemory p (λ reg a. Transfers (LoadPointer seg reg a))) (codeByte (now (ram .entry)) (now (rom .entry)) ps pc) i r ⌝ }
+    ensures { λ r. ⌜ Decodes (withMemory p (λ reg a. Transfers (LoadPointer seg reg a))) (lentCode ram rom ps pc) i r ⌝ }
 {
     let o = code_operand::operands(ram, rom, ps, pc, p, i);
     let place = o.place;
@@ -64,7 +65,7 @@ fn load_pointer(ram: &[u8], rom: &[u8], ps: u16, pc: u16, p: Prefixes, seg: u8, 
 
 fn codesc2(ram: &[u8], rom: &[u8], ps: u16, pc: u16, p: Prefixes, b: u8, i: u16) -> Decoded
     requires { ⌜ (0xc2 ≤ b) × ((b < 0xc6) × (i ≤ 4)) ⌝ }
-    ensures { λ r. ⌜ Names (bytesC0 p) b (codeByte (now (ram .entry)) (now (rom .entry)) ps pc) i r ⌝ }
+    ensures { λ r. ⌜ Names (bytesC0 p) b (lentCode ram rom ps pc) i r ⌝ }
 {
     if b == 0xc2 {
         let size = code_bytes::code_word(ram, rom, ps, pc, i);
@@ -80,7 +81,7 @@ fn codesc2(ram: &[u8], rom: &[u8], ps: u16, pc: u16, p: Prefixes, b: u8, i: u16)
 // C6 and C7: an immediate to a place.
 fn move_immediate(ram: &[u8], rom: &[u8], ps: u16, pc: u16, p: Prefixes, b: u8, i: u16) -> Decoded
     requires { ⌜ (0xc6 ≤ b) × ((b < 0xc8) × (i ≤ 4)) ⌝ }
-    ensures { λ r. ⌜ Names (bytesC0 p) b (codeByte (now (ram .entry)) (now (rom .entry)) ps pc) i r ⌝ }
+    ensures { λ r. ⌜ Names (bytesC0 p) b (lentCode ram rom ps pc) i r ⌝ }
 {
     let o = code_operand::operands(ram, rom, ps, pc, p, i);
     let place = o.place;
@@ -101,7 +102,7 @@ fn move_immediate(ram: &[u8], rom: &[u8], ps: u16, pc: u16, p: Prefixes, b: u8, 
 
 fn codesc8(ram: &[u8], rom: &[u8], ps: u16, pc: u16, p: Prefixes, b: u8, i: u16) -> Decoded
     requires { ⌜ (0xc8 ≤ b) × ((b < 0xcc) × (i ≤ 4)) ⌝ }
-    ensures { λ r. ⌜ Names (bytesC0 p) b (codeByte (now (ram .entry)) (now (rom .entry)) ps pc) i r ⌝ }
+    ensures { λ r. ⌜ Names (bytesC0 p) b (lentCode ram rom ps pc) i r ⌝ }
 {
     if b == 0xc8 {
         let size = code_bytes::code_word(ram, rom, ps, pc, i);
@@ -126,23 +127,26 @@ fn codesc8(ram: &[u8], rom: &[u8], ps: u16, pc: u16, p: Prefixes, b: u8, i: u16)
 
 fn codescc(ram: &[u8], rom: &[u8], ps: u16, pc: u16, p: Prefixes, b: u8, i: u16) -> Decoded
     requires { ⌜ (0xcc ≤ b) × ((b < 0xd0) × (i ≤ 4)) ⌝ }
-    ensures { λ r. ⌜ Names (bytesC0 p) b (codeByte (now (ram .entry)) (now (rom .entry)) ps pc) i r ⌝ }
+    ensures { λ r. ⌜ Names (bytesC0 p) b (lentCode ram rom ps pc) i r ⌝ }
 {
     if b == 0xcd {
         let vector = code_bytes::code_byte(ram, rom, ps, pc, i);
         return code_answer::interrupts(Interrupt::Brk { vector: vector }, i + 1);
     }
-    let group = match b {
-        0xcc => Interrupt::Brk3,
-        0xce => Interrupt::Brkv,
-        _ => Interrupt::Reti,
+    if b == 0xcf {
+        return code_answer::modes(Mode::Reti, i);
+    }
+    let group = if b == 0xcc {
+        Interrupt::Brk3
+    } else {
+        Interrupt::Brkv
     };
     code_answer::interrupts(group, i)
 }
 
 pub fn codesc0(ram: &[u8], rom: &[u8], ps: u16, pc: u16, p: Prefixes, b: u8, i: u16) -> Decoded
     requires { ⌜ (0xc0 ≤ b) × ((b < 0xd0) × (i ≤ 4)) ⌝ }
-    ensures { λ r. ⌜ Names (bytesC0 p) b (codeByte (now (ram .entry)) (now (rom .entry)) ps pc) i r ⌝ }
+    ensures { λ r. ⌜ Names (bytesC0 p) b (lentCode ram rom ps pc) i r ⌝ }
 {
     if b < 0xc2 {
         return shift_given(ram, rom, ps, pc, p, b, i);

@@ -7,7 +7,7 @@ use sheet::Prefixes;
 use sheet::Transfer;
 ghost use Prim.Native.Nat.{_≤_, _<_};
 ghost use Rattle.sheet.specs.Reading.{got};
-ghost use Rattle.sheet.specs.Step.{codeByte};
+ghost use Rattle.code_answer.specs.Lent.{lentCode};
 ghost use Rattle.sheet.specs.FirstByte.{shiftGroup, bytesC0};
 ghost use Rattle.code_answer.specs.Answer.{Decodes, Names};
 
@@ -26,7 +26,7 @@ fn shift_fixed(
     i: u16,
 ) -> Decoded
     requires { ⌜ i ≤ 4 ⌝ }
-    ensures { λ r. ⌜ Decodes (shiftGroup p (got places) b) (codeByte (now (ram .entry)) (now (rom .entry)) ps pc) i r ⌝ }
+    ensures { λ r. ⌜ Decodes (shiftGroup p (got places) b) (lentCode ram rom ps pc) i r ⌝ }
 {
     let o = code_operand::operands(ram, rom, ps, pc, p, i);
     let place = o.place;
@@ -39,7 +39,7 @@ fn shift_fixed(
 
 pub fn codesd0(ram: &[u8], rom: &[u8], ps: u16, pc: u16, p: Prefixes, b: u8, i: u16) -> Decoded
     requires { ⌜ (0xd0 ≤ b) × ((b < 0xe0) × (i ≤ 4)) ⌝ }
-    ensures { λ r. ⌜ Names (bytesC0 p) b (codeByte (now (ram .entry)) (now (rom .entry)) ps pc) i r ⌝ }
+    ensures { λ r. ⌜ Names (bytesC0 p) b (lentCode ram rom ps pc) i r ⌝ }
 {
     if b < 0xd4 {
         let places = if b < 0xd2 {

@@ -6,14 +6,14 @@ use sheet::Io;
 use sheet::Port;
 use sheet::Prefixes;
 ghost use Prim.Native.Nat.{_≤_, _<_};
-ghost use Rattle.sheet.specs.Step.{codeByte};
+ghost use Rattle.code_answer.specs.Lent.{lentCode};
 ghost use Rattle.sheet.specs.FirstByte.{bytesC0};
 ghost use Rattle.code_answer.specs.Answer.{Names};
 
 // E0 to E3: branches by CW.
 fn loops(ram: &[u8], rom: &[u8], ps: u16, pc: u16, p: Prefixes, b: u8, i: u16) -> Decoded
     requires { ⌜ (0xe0 ≤ b) × ((b < 0xe4) × (i ≤ 4)) ⌝ }
-    ensures { λ r. ⌜ Names (bytesC0 p) b (codeByte (now (ram .entry)) (now (rom .entry)) ps pc) i r ⌝ }
+    ensures { λ r. ⌜ Names (bytesC0 p) b (lentCode ram rom ps pc) i r ⌝ }
 {
     let disp = code_bytes::code_short(ram, rom, ps, pc, i);
     let group = match b {
@@ -28,7 +28,7 @@ fn loops(ram: &[u8], rom: &[u8], ps: u16, pc: u16, p: Prefixes, b: u8, i: u16) -
 // E4 to E7: a port whose number follows.
 fn numbered_ports(ram: &[u8], rom: &[u8], ps: u16, pc: u16, p: Prefixes, b: u8, i: u16) -> Decoded
     requires { ⌜ (0xe4 ≤ b) × ((b < 0xe8) × (i ≤ 4)) ⌝ }
-    ensures { λ r. ⌜ Names (bytesC0 p) b (codeByte (now (ram .entry)) (now (rom .entry)) ps pc) i r ⌝ }
+    ensures { λ r. ⌜ Names (bytesC0 p) b (lentCode ram rom ps pc) i r ⌝ }
 {
     let number = code_bytes::code_byte(ram, rom, ps, pc, i);
     let word = b % 2 == 1;
@@ -49,7 +49,7 @@ fn numbered_ports(ram: &[u8], rom: &[u8], ps: u16, pc: u16, p: Prefixes, b: u8, 
 
 fn codese8(ram: &[u8], rom: &[u8], ps: u16, pc: u16, p: Prefixes, b: u8, i: u16) -> Decoded
     requires { ⌜ (0xe8 ≤ b) × ((b < 0xec) × (i ≤ 4)) ⌝ }
-    ensures { λ r. ⌜ Names (bytesC0 p) b (codeByte (now (ram .entry)) (now (rom .entry)) ps pc) i r ⌝ }
+    ensures { λ r. ⌜ Names (bytesC0 p) b (lentCode ram rom ps pc) i r ⌝ }
 {
     if b == 0xea {
         let to = code_bytes::code_far(ram, rom, ps, pc, i);
@@ -76,7 +76,7 @@ fn codese8(ram: &[u8], rom: &[u8], ps: u16, pc: u16, p: Prefixes, b: u8, i: u16)
 
 pub fn codese0(ram: &[u8], rom: &[u8], ps: u16, pc: u16, p: Prefixes, b: u8, i: u16) -> Decoded
     requires { ⌜ (0xe0 ≤ b) × ((b < 0xf0) × (i ≤ 4)) ⌝ }
-    ensures { λ r. ⌜ Names (bytesC0 p) b (codeByte (now (ram .entry)) (now (rom .entry)) ps pc) i r ⌝ }
+    ensures { λ r. ⌜ Names (bytesC0 p) b (lentCode ram rom ps pc) i r ⌝ }
 {
     if b < 0xe4 {
         return loops(ram, rom, ps, pc, p, b, i);

@@ -14,14 +14,14 @@ ghost use Prim.Native.Nat.{_≤_};
 ghost use Rattle.sheet.specs.Groups.{Branches};
 ghost use Rattle.sheet.specs.declared.Branch.the-variants.{CallFarAt, BrFarAt};
 ghost use Rattle.sheet.specs.Width.{pick};
-ghost use Rattle.sheet.specs.Step.{codeByte};
+ghost use Rattle.code_answer.specs.Lent.{lentCode};
 ghost use Rattle.sheet.specs.FirstByte.{groupF6, groupFE, groupFF, bytesC0};
 ghost use Rattle.code_answer.specs.Answer.{Decodes, Names};
 ghost use Rattle.code_f0.specs.Memory.{memoryOnly};
 
 fn group_f6(ram: &[u8], rom: &[u8], ps: u16, pc: u16, p: Prefixes, b: u8, i: u16) -> Decoded
     requires { ⌜ i ≤ 4 ⌝ }
-    ensures { λ r. ⌜ Decodes (groupF6 p b) (codeByte (now (ram .entry)) (now (rom .entry)) ps pc) i r ⌝ }
+    ensures { λ r. ⌜ Decodes (groupF6 p b) (lentCode ram rom ps pc) i r ⌝ }
 {
     let o = code_operand::operands(ram, rom, ps, pc, p, i);
     let place = o.place;
@@ -92,7 +92,7 @@ fn far_at(call: bool, place: Place, size: u16) -> Decoded
 // FE has the first two rows of FF, for bytes.
 fn group_fe(ram: &[u8], rom: &[u8], ps: u16, pc: u16, p: Prefixes, word: bool, i: u16) -> Decoded
     requires { ⌜ i ≤ 4 ⌝ }
-    ensures { λ r. ⌜ Decodes (pick word (groupFF p) (groupFE p)) (codeByte (now (ram .entry)) (now (rom .entry)) ps pc) i r ⌝ }
+    ensures { λ r. ⌜ Decodes (pick word (groupFF p) (groupFE p)) (lentCode ram rom ps pc) i r ⌝ }
 {
     let o = code_operand::operands(ram, rom, ps, pc, p, i);
     let place = o.place;
@@ -123,7 +123,7 @@ fn group_fe(ram: &[u8], rom: &[u8], ps: u16, pc: u16, p: Prefixes, word: bool, i
 
 pub fn codesf0(ram: &[u8], rom: &[u8], ps: u16, pc: u16, p: Prefixes, b: u8, i: u16) -> Decoded
     requires { ⌜ (0xf0 ≤ b) × (i ≤ 4) ⌝ }
-    ensures { λ r. ⌜ Names (bytesC0 p) b (codeByte (now (ram .entry)) (now (rom .entry)) ps pc) i r ⌝ }
+    ensures { λ r. ⌜ Names (bytesC0 p) b (lentCode ram rom ps pc) i r ⌝ }
 {
     if b < 0xf4 {
         return Decoded::Unknown { number: 3 };

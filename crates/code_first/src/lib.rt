@@ -2,13 +2,13 @@
 use code_answer::Decoded;
 use sheet::Prefixes;
 ghost use Prim.Native.Nat.{_≤_};
-ghost use Rattle.sheet.specs.Step.{codeByte};
+ghost use Rattle.code_answer.specs.Lent.{lentCode};
 ghost use Rattle.sheet.specs.FirstByte.{bytesC0, firstBytes};
 ghost use Rattle.code_answer.specs.Answer.{Names};
 
 fn first_high(ram: &[u8], rom: &[u8], ps: u16, pc: u16, p: Prefixes, b: u8, i: u16) -> Decoded
     requires { ⌜ (0xc0 ≤ b) × (i ≤ 4) ⌝ }
-    ensures { λ r. ⌜ Names (bytesC0 p) b (codeByte (now (ram .entry)) (now (rom .entry)) ps pc) i r ⌝ }
+    ensures { λ r. ⌜ Names (bytesC0 p) b (lentCode ram rom ps pc) i r ⌝ }
 {
     if b < 0xd0 {
         return code_c0::codesc0(ram, rom, ps, pc, p, b, i);
@@ -24,7 +24,7 @@ fn first_high(ram: &[u8], rom: &[u8], ps: u16, pc: u16, p: Prefixes, b: u8, i: u
 
 pub fn first(ram: &[u8], rom: &[u8], ps: u16, pc: u16, p: Prefixes, b: u8, i: u16) -> Decoded
     requires { ⌜ i ≤ 4 ⌝ }
-    ensures { λ r. ⌜ Names (firstBytes p) b (codeByte (now (ram .entry)) (now (rom .entry)) ps pc) i r ⌝ }
+    ensures { λ r. ⌜ Names (firstBytes p) b (lentCode ram rom ps pc) i r ⌝ }
 {
     if b < 0x40 {
         return code_00::codes00(ram, rom, ps, pc, p, b, i);

@@ -16,8 +16,9 @@ ghost use Rattle.sheet.specs.declared.Instr.the-variants.{Blocks};
 ghost use Rattle.code_answer.specs.declared.Decoded.the-variants.{Known};
 ghost use Rattle.sheet.specs.Registers.{inDs0};
 ghost use Rattle.sheet.specs.FirstByte.{operationAt, shifts};
-ghost use Rattle.sheet.specs.Step.{codeByte};
-ghost use Rattle.sheet.specs.Encoding.{W, segOr, modField, memField, formed as formedOf, direct as directOf, displacement as displacementRead, address as addressRead};
+ghost use Rattle.code_answer.specs.Lent.{lentCode};
+ghost use Rattle.sheet.specs.Encoding.{W, segOr, modField, memField};
+ghost use Rattle.sheet.specs.Encoding.{formed as formedOf, direct as directOf, displacement as displacementRead, address as addressRead};
 ghost use Rattle.code_answer.specs.Answer.{Takes};
 ghost use Rattle.code_operand.specs.Operands.{Operands};
 
@@ -122,7 +123,7 @@ pub fn shift_at(n: u8) -> Shift
 // A displacement: none, a byte with its sign, a word.
 fn displacement(ram: &[u8], rom: &[u8], ps: u16, pc: u16, mode: u8, i: u16) -> NumberRead
     requires { ⌜ i ≤ 6 ⌝ }
-    ensures { λ r. ⌜ Takes ℕ (displacementRead mode) (codeByte (now (ram .entry)) (now (rom .entry)) ps pc) i (r .value) (r .next) 2 ⌝ }
+    ensures { λ r. ⌜ Takes ℕ (displacementRead mode) (lentCode ram rom ps pc) i (r .value) (r .next) 2 ⌝ }
 {
     if mode == 0 {
         return NumberRead { value: 0, next: i };
@@ -142,7 +143,7 @@ fn displacement(ram: &[u8], rom: &[u8], ps: u16, pc: u16, mode: u8, i: u16) -> N
 // Form 6 without displacement is a 16-bit address instead.
 fn address(ram: &[u8], rom: &[u8], ps: u16, pc: u16, p: Prefixes, m: u8, i: u16) -> AddressRead
     requires { ⌜ i ≤ 6 ⌝ }
-    ensures { λ r. ⌜ Takes Address (addressRead p (modField m) (memField m)) (codeByte (now (ram .entry)) (now (rom .entry)) ps pc) i (r .address) (r .next) 2 ⌝ }
+    ensures { λ r. ⌜ Takes Address (addressRead p (modField m) (memField m)) (lentCode ram rom ps pc) i (r .address) (r .next) 2 ⌝ }
 {
     if m / 64 * 8 + m % 8 == 6 {
         let offset = code_bytes::code_word(ram, rom, ps, pc, i);
@@ -161,7 +162,7 @@ fn address(ram: &[u8], rom: &[u8], ps: u16, pc: u16, p: Prefixes, m: u8, i: u16)
 // The mod-reg-mem byte and what it names: mod 11 is a register.
 pub fn operands(ram: &[u8], rom: &[u8], ps: u16, pc: u16, p: Prefixes, i: u16) -> OperandsRead
     requires { ⌜ i ≤ 5 ⌝ }
-    ensures { λ r. ⌜ Operands p (codeByte (now (ram .entry)) (now (rom .entry)) ps pc) i (r .reg) (r .place) (r .next) ⌝ }
+    ensures { λ r. ⌜ Operands p (lentCode ram rom ps pc) i (r .reg) (r .place) (r .next) ⌝ }
 {
     let m = code_bytes::code_byte(ram, rom, ps, pc, i);
     let reg = m / 8 % 8;

@@ -6,7 +6,7 @@ ghost use mathlib.Core.Path.{_≡_};
 ghost use Prim.Native.Nat.{_≤_};
 ghost use mathlib.Core.Option.{some};
 ghost use Rattle.sheet.specs.Encoding.{segmentPrefix, repeatPrefix, prefixOf, unprefixed};
-ghost use Rattle.sheet.specs.Step.{codeByte};
+ghost use Rattle.code_answer.specs.Lent.{lentCode};
 ghost use Rattle.code_prefix.specs.Found.{found};
 ghost use Rattle.code_prefix.specs.Opening.{Opens};
 
@@ -90,7 +90,7 @@ fn prefix(p: Prefixes, b: u8) -> Found
 // The prefixes from the byte i on, and the byte after them.
 fn later(ram: &[u8], rom: &[u8], ps: u16, pc: u16, p: Prefixes, i: u16) -> Opening
     requires { ⌜ i ≤ 3 ⌝ }
-    ensures { λ r. ⌜ Opens p (codeByte (now (ram .entry)) (now (rom .entry)) ps pc) i r ⌝ }
+    ensures { λ r. ⌜ Opens p (lentCode ram rom ps pc) i r ⌝ }
 {
     let b = code_bytes::code_byte(ram, rom, ps, pc, i);
     let f = prefix(p, b);
@@ -116,7 +116,7 @@ fn later(ram: &[u8], rom: &[u8], ps: u16, pc: u16, p: Prefixes, i: u16) -> Openi
 
 // The same from the beginning: most instructions have no prefix, and a function that calls itself is not built into its caller.
 pub fn start(ram: &[u8], rom: &[u8], ps: u16, pc: u16) -> Opening
-    ensures { λ r. ⌜ Opens unprefixed (codeByte (now (ram .entry)) (now (rom .entry)) ps pc) 0 r ⌝ }
+    ensures { λ r. ⌜ Opens unprefixed (lentCode ram rom ps pc) 0 r ⌝ }
 {
     let none = Prefixes {
         seg: Override::Usual,

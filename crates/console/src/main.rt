@@ -1,7 +1,7 @@
-// The console: runs a ROM over a tape from reset on. Its arguments, which an empty one leaves out, are as `v30 run` and `v30 trace` hand them
-// on: ROM, TAPE, INTERRUPTS, LOG, RAM, STEPS, UNTIL (an address), the files RAM-IN, RAM-OUT and SEEN, the first and the last step that
-// are traced, the file of the report, and whether only steps that drop a byte are traced. It begins only when all of them can be used,
-// and makes its files anew.
+// The console: runs a ROM over a tape from reset on. Its arguments, which an empty one leaves out, are as `v30 run` and `v30 trace`
+// hand them on: ROM, TAPE, INTERRUPTS, LOG, RAM, STEPS, UNTIL (an address), the files RAM-IN, RAM-OUT and SEEN, the first and the last
+// step that are traced, the file of the report, and whether only steps that drop a byte are traced. It begins only when all of them
+// can be used, and makes its files anew.
 mod report;
 mod watch;
 
@@ -17,7 +17,7 @@ use watch::Watch;
 ghost use Rattle.io.specs.Counts.{Counts};
 ghost use Rattle.sheet.specs.Step.{reset};
 ghost use Rattle.console_turns.specs.Stand.{begun};
-ghost use Rattle.console_session.specs.Turns.{Plays};
+ghost use Rattle.console_session.specs.Lent.{PlaysOn};
 
 const STEPS: u64 = 10000000;
 
@@ -55,7 +55,7 @@ fn go_on(
     keys: &mut [u32; 65536],
     counts: &mut [u64; 65536],
 ) -> Session
-    ensures { λ r. ⌜ Plays 1 (now (schedule .entry)) plan s (now (ram .entry)) (now (rom .entry)) (now (tape .entry)) (now (log .entry)) r (now (ram .exit)) (now (log .exit)) ⌝ }
+    ensures { λ r. ⌜ PlaysOn 1 schedule plan s ram rom tape log r ⌝ }
 {
     let mut line = console_trace::blank();
     let end = watch::put_words(&mut line, s, ram, rom, w);
@@ -77,7 +77,7 @@ fn play(
     keys: &mut [u32; 65536],
     counts: &mut [u64; 65536],
 ) -> Session
-    ensures { λ r. ⌜ Plays 18446744073709551615 (now (schedule .entry)) plan (begun reset) (now (ram .entry)) (now (rom .entry)) (now (tape .entry)) (now (log .entry)) r (now (ram .exit)) (now (log .exit)) ⌝ }
+    ensures { λ r. ⌜ PlaysOn 18446744073709551615 schedule plan (begun reset) ram rom tape log r ⌝ }
 {
     let mut s = console_turns::begin(step_calls::reset());
     let mut clock = console_files::start();

@@ -7,7 +7,7 @@ use console_turns::answered;
 use console_turns::budget;
 use console_turns::is_called;
 use console_turns::upcoming;
-ghost use Rattle.console_session.specs.Turns.{Called, Continued, Turn, Plays};
+ghost use Rattle.console_session.specs.Lent.{CalledOn, ContinuedOn, TurnOn, PlaysOn};
 
 fn interrupted(
     s: Session,
@@ -18,7 +18,7 @@ fn interrupted(
     call: u64,
     plan: Plan,
 ) -> Session
-    ensures { λ r. ⌜ Called call plan s (now (ram .entry)) (now (rom .entry)) (now (tape .entry)) (now (log .entry)) r (now (ram .exit)) ⌝ }
+    ensures { λ r. ⌜ CalledOn call plan s ram rom tape log r ⌝ }
 {
     let state = s.state;
     let vector = (call / 2 % 256) as u8;
@@ -35,7 +35,7 @@ fn continued(
     n: Next,
     plan: Plan,
 ) -> Session
-    ensures { λ r. ⌜ Continued n plan s (now (ram .entry)) (now (rom .entry)) (now (tape .entry)) (now (log .entry)) r (now (ram .exit)) (now (log .exit)) ⌝ }
+    ensures { λ r. ⌜ ContinuedOn n plan s ram rom tape log r ⌝ }
 {
     let state = s.state;
     let r = quick_run::run(
@@ -59,7 +59,7 @@ fn turn(
     calls: &[u64],
     plan: Plan,
 ) -> Session
-    ensures { λ r. ⌜ Turn (now (calls .entry)) plan s (now (ram .entry)) (now (rom .entry)) (now (tape .entry)) (now (log .entry)) r (now (ram .exit)) (now (log .exit)) ⌝ }
+    ensures { λ r. ⌜ TurnOn calls plan s ram rom tape log r ⌝ }
 {
     let n = upcoming(calls, s);
     if is_called(s, n, plan.limit) {
@@ -79,7 +79,7 @@ pub fn play(
     plan: Plan,
     turns: u64,
 ) -> Session
-    ensures { λ r. ⌜ Plays turns (now (calls .entry)) plan s (now (ram .entry)) (now (rom .entry)) (now (tape .entry)) (now (log .entry)) r (now (ram .exit)) (now (log .exit)) ⌝ }
+    ensures { λ r. ⌜ PlaysOn turns calls plan s ram rom tape log r ⌝ }
 {
     let mut stand = s;
     let mut done = 0;

@@ -8,8 +8,10 @@ use base_line::put_hex;
 use base_line::put_word;
 use code_answer::Decoded;
 use libc::STDOUT_FILENO;
+use mach_registers::BP;
 use mach_registers::PC;
 use mach_registers::PS;
+use mach_registers::PSW;
 use mach_registers::SP;
 use mach_registers::SS;
 use sheet::Entry;
@@ -47,10 +49,43 @@ fn put_data(line: &mut [u8; 80], at: usize, b: u8) -> usize {
     put_hex(line, x, b as u64, 2)
 }
 
-// The address PS:PC and the instruction there.
+// The code byte at an offset.
+fn put_code(line: &mut [u8; 80], at: usize, ps: u16, pc: u16, ram: &[u8], rom: &[u8]) -> usize {
+    put_hex(line, at, mach_memory::read_byte(ram, rom, ps, pc) as u64, 2)
+}
+
+// The bytes of an instruction, up to three.
+fn put_bytes(
+    line: &mut [u8; 80],
+    at: usize,
+    ps: u16,
+    pc: u16,
+    size: u16,
+    ram: &[u8],
+    rom: &[u8],
+) -> usize {
+    let x = put_byte(line, at, b' ');
+    let y = put_code(line, x, ps, pc, ram, rom);
+    if size < 2 {
+        return y;
+    }
+    let z = put_code(line, y, ps, std::num::wrapping_add_u16(pc, 1), ram, rom);
+    if size < 3 {
+        return z;
+    }
+    put_code(line, z, ps, std::num::wrapping_add_u16(pc, 2), ram, rom)
+}
+
+// PSW's bit 15 is the mode.
+fn is_native(psw: u16) -> bool {
+    32768 <= psw
+}
+
+// The address PS:PC and the instruction there; one of the 8080 mode by its bytes.
 pub fn put_there(
     line: &mut [u8; 80],
     at: usize,
+    native: bool,
     ps: u16,
     pc: u16,
     ram: &[u8],
@@ -59,10 +94,14 @@ pub fn put_there(
     let a = mach_memory::address(ps, pc);
     let x = put_hex(line, at, a as u64, 5);
     let y = put_byte(line, x, b' ');
-    match code_decode::decode(ram, rom, ps, pc) {
+    match code_mode::decode(native, ram, rom, ps, pc) {
         Decoded::Known { instr, size } => {
             let next = mach_memory::address(ps, std::num::wrapping_add_u16(pc, size));
-            rom_words::put_instr(line, y, next as u32, instr)
+            let z = rom_words::put_instr(line, y, next as u32, instr);
+            if native {
+                return z;
+            }
+            put_bytes(line, z, ps, pc, size, ram, rom)
         }
         Decoded::Unknown { .. } => put_data(line, y, mach_memory::read_byte(ram, rom, ps, pc)),
     }
@@ -134,9 +173,10 @@ fn put_low_flags(line: &mut [u8; 80], at: usize, a: u16, b: u16, always: bool) -
     put_flag(line, p, b"  CY ", a, b, always)
 }
 
-// The flags of PSW by name: those that changed, or all.
+// The flags of PSW by name: those that changed, or all; the mode where it changed.
 pub fn put_flags(line: &mut [u8; 80], at: usize, a: u16, b: u16, always: bool) -> usize {
-    let x = put_flag(line, at, b"  V ", a / 2048, b / 2048, always);
+    let w = put_flag(line, at, b"  MD ", a / 32768, b / 32768, false);
+    let x = put_flag(line, w, b"  V ", a / 2048, b / 2048, always);
     let y = put_flag(line, x, b"  DIR ", a / 1024, b / 1024, always);
     let z = put_flag(line, y, b"  IE ", a / 512, b / 512, always);
     let p = put_flag(line, z, b"  BRK ", a / 256, b / 256, always);
@@ -160,6 +200,14 @@ fn put_cycles(line: &mut [u8; 80], at: usize, cycles: u64) -> usize {
     put_decimal(line, x, cycles)
 }
 
+// The end of the stack of either mode.
+fn end_of_stack(file: [u16; 14], to: usize) -> usize {
+    if to == target::STACK {
+        return mach_memory::address(file[SS], file[SP]);
+    }
+    mach_memory::address(file[target::DS0], file[BP])
+}
+
 // The bytes that were dropped, and where they were to go: on the stack that is its end, as it is afterwards.
 fn put_drops(line: &mut [u8; 80], at: usize, bus: Traffic, file: [u16; 14]) -> usize {
     if bus.dropped == 0 {
@@ -171,7 +219,7 @@ fn put_drops(line: &mut [u8; 80], at: usize, bus: Traffic, file: [u16; 14]) -> u
     let a = if bus.to < target::STACK {
         bus.to
     } else {
-        mach_memory::address(file[SS], file[SP])
+        end_of_stack(file, bus.to)
     };
     put_hex(line, z, a as u64, 5)
 }
@@ -223,7 +271,7 @@ pub fn put_effects(
 ) -> usize {
     let a = s.file;
     let b = t.file;
-    let x = put_flags(line, at, a[13], b[13], false);
+    let x = put_flags(line, at, a[PSW], b[PSW], false);
     let y = put_cycles(line, x, cycles);
     put_port(line, y, log, s.progress.log, t.progress.log)
 }
@@ -241,13 +289,21 @@ fn column(end: usize) -> usize {
 // The instruction that a state is about to do, with room before it for the number of its step.
 pub fn put_next(line: &mut [u8; 80], s: State, ram: &[u8], rom: &[u8]) -> usize {
     let file = s.file;
-    put_there(line, WORDS, file[PS], file[PC], ram, rom)
+    put_there(
+        line,
+        WORDS,
+        is_native(file[PSW]),
+        file[PS],
+        file[PC],
+        ram,
+        rom,
+    )
 }
 
 // Where the instruction writes that a state is about to do.
 pub fn next_target(s: State, ram: &[u8], rom: &[u8]) -> usize {
     let file = s.file;
-    match code_decode::decode(ram, rom, file[PS], file[PC]) {
+    match code_mode::decode(is_native(file[PSW]), ram, rom, file[PS], file[PC]) {
         Decoded::Known { instr, .. } => target::of(&file, instr),
         Decoded::Unknown { .. } => target::STACK,
     }
@@ -317,18 +373,18 @@ pub fn write_call(
 // The instruction that would be next, and the flags: two lines.
 pub fn write_stand(fd: i32, s: State, ram: &[u8], rom: &[u8]) -> bool {
     let file = s.file;
-    let psw = file[13];
+    let psw = file[PSW];
     let mut flags = blank();
     let x = put_word(&mut flags, 0, b"flags");
     let y = put_flags(&mut flags, x, psw, psw, true);
     let n = put_byte(&mut flags, y, b'\n');
-    write(fd, flags, n) & write_next(fd, file[PS], file[PC], ram, rom)
+    write(fd, flags, n) & write_next(fd, is_native(psw), file[PS], file[PC], ram, rom)
 }
 
-fn write_next(fd: i32, ps: u16, pc: u16, ram: &[u8], rom: &[u8]) -> bool {
+fn write_next(fd: i32, native: bool, ps: u16, pc: u16, ram: &[u8], rom: &[u8]) -> bool {
     let mut line = blank();
     let x = put_word(&mut line, 0, b"at ");
-    let y = put_there(&mut line, x, ps, pc, ram, rom);
+    let y = put_there(&mut line, x, native, ps, pc, ram, rom);
     let n = put_byte(&mut line, y, b'\n');
     write(fd, line, n)
 }

@@ -1,4 +1,4 @@
-// Where an instruction writes in memory: to its operand, to DS1:IY, or else on the stack.
+// Where an instruction writes in memory: to its operand, to DS1:IY, or else on the stack of its mode.
 use mach_registers::DS1;
 use mach_registers::IY;
 use sheet::Address;
@@ -12,9 +12,16 @@ use sheet::Place;
 use sheet::Primitive;
 use sheet::Stack;
 use sheet::Transfer;
+use sheet::cards::Card;
+use sheet::cards::CardArithmetic;
+use sheet::cards::CardPoint;
+
+pub const DS0: usize = 11;
 
 // Stands for the stack, whose place is known when the step is done. No address is so large.
 pub const STACK: usize = 1048576;
+
+const CARD_STACK: usize = 1048577;
 
 fn of_address(file: &[u16; 14], a: Address) -> usize {
     mach_memory::address(mach_operand::base(file, a), mach_operand::offset(file, a))
@@ -100,11 +107,40 @@ fn of_primitive(file: &[u16; 14], p: Primitive) -> usize {
     }
 }
 
+fn of_point(file: &[u16; 14], p: CardPoint) -> usize {
+    match p {
+        CardPoint::Ldax { .. } => STACK,
+        CardPoint::Stax { pair } => {
+            mach_memory::address(file[DS0], mach_registers::reg(true, file, pair))
+        }
+    }
+}
+
+fn of_card_arithmetic(file: &[u16; 14], a: CardArithmetic) -> usize {
+    match a {
+        CardArithmetic::Inr { to } => of_place(file, to),
+        CardArithmetic::Dcr { to } => of_place(file, to),
+        _ => STACK,
+    }
+}
+
+fn of_card(file: &[u16; 14], c: Card) -> usize {
+    match c {
+        Card::Transfers(t) => of_transfer(file, t),
+        Card::Points(p) => of_point(file, p),
+        Card::Calculates(a) => of_card_arithmetic(file, a),
+        Card::Branches(_) => CARD_STACK,
+        Card::Stacks(_) => CARD_STACK,
+        _ => STACK,
+    }
+}
+
 pub fn of(file: &[u16; 14], instr: Instr) -> usize {
     match instr {
         Instr::Computes(c) => of_compute(file, c),
         Instr::Moves(m) => of_move(file, m),
         Instr::Blocks { primitive, .. } => of_primitive(file, primitive),
+        Instr::Cards(c) => of_card(file, c),
         _ => STACK,
     }
 }

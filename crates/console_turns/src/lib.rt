@@ -12,7 +12,8 @@ ghost use mathlib.Core.Path.{_≡_};
 ghost use Prim.Native.Nat.{_-_, _<_, min};
 ghost use Rattle.sheet.specs.Width.{pick};
 ghost use lib.Dec.{eqb};
-ghost use Rattle.console_turns.specs.Stand.{begun, nextOf, comingOf, isCalled, budgetOf, arrives, answeredBy, goesOn, stoodBy, logEmptied, isEmptied, emptiedBy, ranBy};
+ghost use Rattle.console_turns.specs.Stand.{begun, nextOf, comingOf, isCalled, budgetOf, arrives, answeredBy, goesOn, stoodBy};
+ghost use Rattle.console_turns.specs.Stand.{logEmptied, isEmptied, emptiedBy, ranBy};
 
 // How a session is played: its limit of steps, whether its runs are single steps, the address that ends it (1048576 is none), and whether
 // the log is kept.

@@ -8,7 +8,7 @@ use sheet::Progress;
 use sheet::Repeat;
 ghost use mathlib.Core.Path.{_≡_};
 ghost use Rattle.sheet.specs.Block as tree;
-ghost use Rattle.mach_ports.specs.Accesses.{OnPorts};
+ghost use Rattle.mach_ports.specs.Lent.{UsesPortsAndRam};
 
 // A block instruction that used no port.
 fn portless(q: Progress, b: Bus) -> Ported
@@ -34,7 +34,7 @@ pub fn block(
     repeat: Repeat,
     start: u16,
 ) -> Ported
-    ensures { λ r. ⌜ OnPorts (tree.block primitive word seg repeat start) (now (file .entry)) (now (ram .entry)) (now (rom .entry)) (now (tape .entry)) (now (log .entry)) q (r .number) (now (file .exit)) (now (ram .exit)) (now (log .exit)) (r .progress) (r .bus) 4 ⌝ }
+    ensures { λ r. ⌜ UsesPortsAndRam (tree.block primitive word seg repeat start) file ram rom tape log q r 4 ⌝ }
 {
     match primitive {
         Primitive::Movbk => portless(

@@ -32,6 +32,7 @@ use Rattle.sheet.proofs.Lifted.{file-seq, file-pure, file-registers, file-flags
 use Rattle.sheet.proofs.Loop.{Goes, goes-none, goes-more, goes-end}
 use Rattle.mach_memory.specs.Accesses.{Loads, Stores}
 use Rattle.mach_tally.specs.Sums.{Free, Costs, Joins}
+use Rattle.mach_tally.specs.Bounds.{Fair}
 use Rattle.mach_registers.proofs.Laws.{file-reg}
 use Rattle.calc_decimal.proofs.RotateLaws.{set-wraps}
 use Rattle.do_decimal.specs.Both.{Both}
@@ -89,7 +90,7 @@ module _ (f ram rom : List ℕ) (way : Way) (storing : Storing) (stored : Bool) 
 -- after i of n bytes, with c in hand, RAM as it then is and accesses that come to k, whatever else is in the world
 pub record Turns (way : Way) (storing : Storing) (seg n : ℕ) (f ram rom : List ℕ) (i : ℕ) (c : Chain) (ram′ : List ℕ) (k : Bus) : Type 0 where
   pub most : k .cycles ≤ 3 * i
-  pub fair : k .dropped ≤ 2 * k .cycles
+  pub fair : Fair k
   pub at : (s : State) (tape log : List ℕ) → Goes Chain (link way storing seg) n begun (world (withFile s f) ram rom tape log) i c (world (withFile s f) ram′ rom tape log) k
 
 module _ (way : Way) (storing : Storing) (seg n : ℕ) (f ram rom : List ℕ) where

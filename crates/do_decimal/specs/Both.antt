@@ -1,5 +1,5 @@
 -- What reading byte i of both strings comes to.
-use Prim.Native.Nat.{ℕ, _*_, _≤_}
+use Prim.Native.Nat.{ℕ, _≤_}
 use mathlib.Core.Bool.{false}
 use mathlib.Core.List.{List}
 use mathlib.Core.Path.{_≡_}
@@ -9,10 +9,11 @@ use Rattle.sheet.specs.Registers.{IX, IY, DS1, fileOf, segment}
 use Rattle.sheet.specs.Act.{peek}
 use Rattle.sheet.specs.Handler.{_⊕_}
 use Rattle.sheet.specs.Contract.{OnMemory}
+use Rattle.mach_tally.specs.Bounds.{Fair}
 
 pub record Both (f ram rom : List ℕ) (seg i to from : ℕ) (n : Bus) : Type 0 where
   pub most : n .cycles ≤ 2
-  pub fair : n .dropped ≤ 2 * n .cycles
+  pub fair : Fair n
   pub first : Bus
   pub second : Bus
   pub sum : n ≡ first ⊕ second

@@ -20,6 +20,7 @@ use Rattle.sheet.proofs.Lifted.{file-seq, file-pure, file-registers, file-set, 
 use Rattle.sheet.proofs.Loop.{Goes, goes-none, goes-more, goes-end}
 use Rattle.mach_memory.specs.Accesses.{Loads}
 use Rattle.mach_tally.specs.Sums.{Free, Joins}
+use Rattle.mach_tally.specs.Bounds.{Fair}
 
 pub pointer-is : (f g ram ram′ rom : List ℕ) (bp ss v : ℕ) (n m : Bus) → bp ≡ sub16 (getD f BP 0) 2 → ss ≡ getD f SS 0 → Loads true ram rom ss bp v n
     → OnMemory Unit (push v) (set f BP bp) ram rom tt g ram′ m 2 → OnMemory Unit (frame 0 tt) f ram rom tt g ram′ (n ⊕ m) 4
@@ -32,7 +33,7 @@ pointer-is f g ram ram′ rom bp ss v n m e q h k =
 -- i of n pointers are copied, from f and ram to g and ram′; the accesses come to c
 pub record Copies (n : ℕ) (f ram rom : List ℕ) (i : ℕ) (g ram′ : List ℕ) (c : Bus) : Type 0 where
   pub most : c .cycles ≤ 4 * i
-  pub fair : c .dropped ≤ 2 * c .cycles
+  pub fair : Fair c
   pub at : (s : State) (tape log : List ℕ)
       → Goes Unit frame n tt (world (withFile s f) ram rom tape log) i tt (world (withFile s g) ram′ rom tape log) c
 

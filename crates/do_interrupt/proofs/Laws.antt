@@ -7,21 +7,21 @@ use native.Mathlib.Omega.{arith}
 use borrow.Author.Tests.{ltb-true, ltb-false, lt-ltb, le-ltb}
 use lib.Dec.{ltb}
 use lib.IntN.{negsuc}
-use lib.ListN.{getD, set}
+use lib.ListN.{getD}
 use lib.Signed.{ltZ}
 use mir.Syntax.{w16}
 use mir.Val.{Fits}
 use Rattle.sheet.specs.declared.Bus.{Bus}
 use Rattle.sheet.specs.declared.Address.{Address}
 use Rattle.sheet.specs.Width.{add16, signedOf}
-use Rattle.sheet.specs.Psw.{OV, flagOf, pack, restored, settled}
-use Rattle.sheet.specs.Registers.{PS, PC, PSW, fileOf, readReg}
+use Rattle.sheet.specs.Psw.{OV, flagOf}
+use Rattle.sheet.specs.Registers.{PSW, fileOf, readReg}
 use Rattle.sheet.specs.Handler.{nothing, _⊕_}
 use Rattle.sheet.specs.Operand.{pairAt}
-use Rattle.sheet.specs.Traps.{pop, trap, untrapped}
-use Rattle.sheet.specs.Interrupts.{brk, trapIf, brkv, reti, outside, chkind}
+use Rattle.sheet.specs.Traps.{trap}
+use Rattle.sheet.specs.Interrupts.{brk, trapIf, brkv, outside, chkind}
 use Rattle.sheet.specs.Contract.{OnMemory}
-use Rattle.sheet.proofs.Lifted.{file-seq, file-pure, file-set, file-flag, file-flags, memory-seq, memory-free, memory-last, memory-true, memory-false, on-memory}
+use Rattle.sheet.proofs.Lifted.{file-pure, file-flag, memory-seq, memory-free, memory-last, memory-true, memory-false, on-memory}
 use Rattle.mach_registers.proofs.Laws.{file-reg}
 use Rattle.calc_signed.proofs.ReadBack.{read-pos, read-negsuc}
 
@@ -77,15 +77,6 @@ module _ (f g ram ram′ rom : List ℕ) where
   pub brkv-is : (b t : Bool) (n : Bus) → b ≡ flagOf (getD f PSW 0) OV → OnMemory Bool (trapIf b 4) f ram rom t g ram′ n 8 → OnMemory Bool brkv f ram rom t g ram′ n 8
   unfolding brkv
   brkv-is b t n e h = memory-free _ (file-flag OV e) h
-
-  pub reti-is : (pc ps x y : ℕ) (g₁ g₂ : List ℕ) (n m k : Bus) → OnMemory ℕ pop f ram rom pc g₁ ram n 2 → OnMemory ℕ pop g₁ ram rom ps g₂ ram m 2 → OnMemory ℕ pop g₂ ram rom x g ram k 2
-      → y ≡ pack (flagOf x) → OnMemory Bool (untrapped reti) f ram rom false (set (set (set g PC pc) PS ps) PSW y) ram (n ⊕ (m ⊕ k)) 6
-  unfolding untrapped reti settled
-  reti-is pc ps x y g₁ g₂ n m k p q r e =
-      memory-last _
-      (memory-seq _ {t = 2} {u = 4} p
-      (memory-seq _ {t = 2} {u = 2} q (memory-last _ r (file-seq _ (file-set PC pc) (file-seq _ (file-set PS ps) (file-flags (restored x) e))))))
-      file-pure
 
   pub chkind-is : (reg : ℕ) (from : Address) (x y v : ℕ) (b t : Bool) (n m : Bus) → OnMemory (ℕ × ℕ) (pairAt from) f ram rom ((x, y)) f ram n 4 → v ≡ readReg true (fileOf f) reg
       → b ≡ outside v x y → OnMemory Bool (trapIf b 5) f ram rom t g ram′ m 8 → OnMemory Bool (chkind reg from) f ram rom t g ram′ (n ⊕ m) 12

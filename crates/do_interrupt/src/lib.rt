@@ -1,6 +1,4 @@
-// BRK, BRKV, RETI, CHKIND.
-use mach_registers::PC;
-use mach_registers::PS;
+// BRK, BRKV, CHKIND.
 use mach_registers::PSW;
 use mach_stack::Worked;
 use sheet::Address;
@@ -11,8 +9,7 @@ ghost use mathlib.Core.Bool.{Bool};
 ghost use lib.Signed.{ltZ};
 ghost use Rattle.sheet.specs.Width.{signedOf};
 ghost use Rattle.sheet.specs.Interrupts as tree;
-ghost use Rattle.sheet.specs.Traps.{untrapped};
-ghost use Rattle.mach_tally.specs.Lent.{Gives, Takes};
+ghost use Rattle.mach_tally.specs.Lent.{Gives};
 
 fn brk(file: &mut [u16; 14], ram: &mut [u8], rom: &[u8], v: u8) -> Worked
     ensures { λ r. ⌜ Gives Bool (tree.brk v) file ram rom (r .trapped) (r .bus) 8 ⌝ }
@@ -41,21 +38,6 @@ fn brkv(file: &mut [u16; 14], ram: &mut [u8], rom: &[u8]) -> Worked
 {
     let b = calc_flags::v(file[PSW]);
     trap_if(file, ram, rom, b, 4)
-}
-
-fn reti(file: &mut [u16; 14], ram: &[u8], rom: &[u8]) -> Worked
-    ensures { λ r. ⌜ Takes Bool (untrapped tree.reti) file ram rom (r .trapped) (r .bus) 6 ⌝ }
-{
-    let pc = mach_stack::pop(file, ram, rom);
-    let ps = mach_stack::pop(file, ram, rom);
-    let x = mach_stack::pop(file, ram, rom);
-    file[PC] = pc.value;
-    file[PS] = ps.value;
-    file[PSW] = calc_psw::restore(x.value);
-    Worked {
-        trapped: false,
-        bus: mach_tally::three(pc.bus, ps.bus, x.bus),
-    }
 }
 
 // Signed numbers lie in the order of their bits with the sign's bit turned.
@@ -91,7 +73,6 @@ pub fn interrupt(file: &mut [u16; 14], ram: &mut [u8], rom: &[u8], i: Interrupt)
         Interrupt::Brk3 => brk(file, ram, rom, 3),
         Interrupt::Brk { vector } => brk(file, ram, rom, vector),
         Interrupt::Brkv => brkv(file, ram, rom),
-        Interrupt::Reti => reti(file, ram, rom),
         Interrupt::Chkind { reg, from } => chkind(file, ram, rom, reg, from),
     }
 }

@@ -17,7 +17,7 @@ use Rattle.sheet.specs.declared.Divided.{Divided}
 use Rattle.sheet.specs.declared.Divided.the-variants.{Quotient, Trap}
 use Rattle.sheet.specs.declared.Multiply.{Multiply}
 use Rattle.sheet.specs.Width.{halfOf, wrapOf, signedOf, bits32}
-use Rattle.sheet.specs.Psw.{flagOf, pack, keeps, column, settled}
+use Rattle.sheet.specs.Psw.{flagOf, nativeOf, pack, keeps, column, settled}
 use Rattle.sheet.specs.Registers.{AW, DW, PSW, fileOf, readReg}
 use Rattle.sheet.specs.Act.{Act, _>>=_, registers}
 use Rattle.sheet.specs.Operand.{regValue, setReg, valueAt}
@@ -131,11 +131,11 @@ pub signed-within : (w : Bool) (a b : ℕ) (d : Divided) → d ≡ signedQuotien
 signed-within w a b d e = rw e (record { both = signed-held w a b })
 
 -- undefined flags are kept, and the fixed bits put right
-all-kept : (x psw : ℕ) → x ≡ pack (flagOf psw) → x ≡ settled keeps (column allUnknown) psw
+all-kept : (x psw : ℕ) → x ≡ pack (nativeOf psw) (flagOf psw) → x ≡ settled keeps (column allUnknown) psw
 unfolding settled
 all-kept x psw e = e
 
-module _ (f g ram rom : List ℕ) (w : Bool) (d : Divided) (x : ℕ) (e : x ≡ pack (flagOf (getD g PSW 0))) where
+module _ (f g ram rom : List ℕ) (w : Bool) (d : Divided) (x : ℕ) (e : x ≡ pack (nativeOf (getD g PSW 0)) (flagOf (getD g PSW 0))) where
   pub quotient-is : (q m : ℕ) → d ≡ Quotient q m → OnFile Unit (setQuotient w q m) f tt g → OnMemory Bool (divided w d) f ram rom false (set g PSW x) ram nothing 8
   unfolding divided
   quotient-is q m z h = rw z (on-memory ram rom 8 (file-seq _ h (file-seq _ (file-flags (column allUnknown) (all-kept x (getD g PSW 0) e)) file-pure)))

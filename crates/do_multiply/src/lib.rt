@@ -99,7 +99,7 @@ fn divided(file: &mut [u16; 14], ram: &mut [u8], rom: &[u8], word: bool, d: Divi
             remainder,
         } => {
             set_quotient(file, word, quotient, remainder);
-            file[PSW] = calc_psw::restore(file[PSW]);
+            file[PSW] = calc_psw::restore(file[PSW], file[PSW]);
             Worked {
                 trapped: false,
                 bus: mach_tally::none(),
@@ -107,7 +107,7 @@ fn divided(file: &mut [u16; 14], ram: &mut [u8], rom: &[u8], word: bool, d: Divi
         }
         Divided::Trap => {
             let b = mach_stack::trap(file, ram, rom, 0);
-            file[PSW] = calc_psw::restore(file[PSW]);
+            file[PSW] = calc_psw::restore(file[PSW], file[PSW]);
             Worked {
                 trapped: true,
                 bus: b,

@@ -9,7 +9,7 @@ ghost use Prim.Native.Nat.{ℕ};
 ghost use Rattle.sheet.specs.Ports as tree;
 ghost use Rattle.sheet.specs.declared.Io.the-variants as io;
 ghost use Rattle.sheet.specs.Contract.{OnFile};
-ghost use Rattle.mach_ports.specs.Accesses.{OnPorts};
+ghost use Rattle.mach_ports.specs.Lent.{UsesPorts, UsesPortsAlone};
 
 fn port_number(file: &[u16; 14], port: Port) -> u16
     ensures { λ r. ⌜ OnFile ℕ (tree.portNumber port) (now (file .entry)) r (now (file .entry)) ⌝ }
@@ -30,7 +30,7 @@ fn input(
     word: bool,
     port: Port,
 ) -> Ported
-    ensures { λ r. ⌜ OnPorts (tree.ports (io.In word port)) (now (file .entry)) (now (ram .entry)) (now (rom .entry)) (now (tape .entry)) (now (log .entry)) q (r .number) (now (file .exit)) (now (ram .entry)) (now (log .exit)) (r .progress) (r .bus) 2 ⌝ }
+    ensures { λ r. ⌜ UsesPorts (tree.ports (io.In word port)) file ram rom tape log q r 2 ⌝ }
 {
     let n = port_number(file, port);
     let t = mach_ports::take(word, tape, log, q, n);
@@ -56,7 +56,7 @@ fn output(
     word: bool,
     port: Port,
 ) -> Ported
-    ensures { λ r. ⌜ OnPorts (tree.ports (io.Out word port)) (now (file .entry)) (now (ram .entry)) (now (rom .entry)) (now (tape .entry)) (now (log .entry)) q (r .number) (now (file .entry)) (now (ram .entry)) (now (log .exit)) (r .progress) (r .bus) 2 ⌝ }
+    ensures { λ r. ⌜ UsesPortsAlone (tree.ports (io.Out word port)) file ram rom tape log q r 2 ⌝ }
 {
     let n = port_number(file, port);
     let v = mach_registers::reg(word, file, 0);
@@ -72,7 +72,7 @@ pub fn access(
     q: Progress,
     i: Io,
 ) -> Ported
-    ensures { λ r. ⌜ OnPorts (tree.ports i) (now (file .entry)) (now (ram .entry)) (now (rom .entry)) (now (tape .entry)) (now (log .entry)) q (r .number) (now (file .exit)) (now (ram .entry)) (now (log .exit)) (r .progress) (r .bus) 2 ⌝ }
+    ensures { λ r. ⌜ UsesPorts (tree.ports i) file ram rom tape log q r 2 ⌝ }
 {
     match i {
         Io::In { word, port } => input(file, ram, rom, tape, log, q, word, port),

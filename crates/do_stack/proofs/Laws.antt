@@ -10,15 +10,14 @@ use Rattle.sheet.specs.declared.Place.{Place}
 use Rattle.sheet.specs.declared.Place.the-variants.{Memory}
 use Rattle.sheet.specs.declared.Spot.{Spot}
 use Rattle.sheet.specs.Width.{sub16}
-use Rattle.sheet.specs.Psw.{flagOf, pack, restored, settled}
 use Rattle.sheet.specs.Registers.{SP, SS, PSW, fileOf, segment, readReg}
 use Rattle.sheet.specs.Act.{_≔_}
 use Rattle.sheet.specs.Handler.{_⊕_}
 use Rattle.sheet.specs.Operand.{locate, deposit, valueAt}
 use Rattle.sheet.specs.Traps.{push, pop, popInto, pushPsw}
-use Rattle.sheet.specs.Stack.{pushRegister, pushPlace, pushSegment, popPlace, popSegment, popPsw}
+use Rattle.sheet.specs.Stack.{pushRegister, pushPlace, pushSegment, popPlace, popSegment}
 use Rattle.sheet.specs.Contract.{OnFile, OnMemory}
-use Rattle.sheet.proofs.Lifted.{file-registers, file-set, file-flags, file-psw, memory-seq, memory-free, memory-last}
+use Rattle.sheet.proofs.Lifted.{file-registers, file-set, file-psw, memory-seq, memory-free, memory-last}
 use Rattle.calc_word.proofs.WidthLaws.{wrap-id}
 use Rattle.mach_memory.specs.Accesses.{Stores}
 
@@ -50,7 +49,3 @@ module _ (f g ram ram′ rom : List ℕ) where
   pub pop-segment-is : (seg v : ℕ) (h : List ℕ) (n : Bus) → OnMemory ℕ pop f ram rom v h ram n 2 → OnFile Unit (segment seg ≔ v) h tt g → OnMemory Unit (popSegment seg) f ram rom tt g ram n 2
   unfolding popSegment popInto
   pop-segment-is seg v h n p q = memory-last _ p q
-
-  pub pop-psw-is : (v x : ℕ) (n : Bus) → OnMemory ℕ pop f ram rom v g ram n 2 → x ≡ pack (flagOf v) → OnMemory Unit popPsw f ram rom tt (set g PSW x) ram n 2
-  unfolding popPsw settled
-  pop-psw-is v x n p e = memory-last _ p (file-flags (restored v) e)

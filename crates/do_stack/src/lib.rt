@@ -70,14 +70,6 @@ fn pop_segment(file: &mut [u16; 14], ram: &[u8], rom: &[u8], seg: u8) -> Bus
     v.bus
 }
 
-fn pop_psw(file: &mut [u16; 14], ram: &[u8], rom: &[u8]) -> Bus
-    ensures { λ r. ⌜ Takes Unit tree.popPsw file ram rom tt r 2 ⌝ }
-{
-    let x = mach_stack::pop(file, ram, rom);
-    file[PSW] = calc_psw::restore(x.value);
-    x.bus
-}
-
 pub fn stack(file: &mut [u16; 14], ram: &mut [u8], rom: &[u8], i: Stack) -> Bus
     ensures { λ r. ⌜ Does (tree.stack i) file ram rom r 1020 ⌝ }
 {
@@ -90,7 +82,6 @@ pub fn stack(file: &mut [u16; 14], ram: &mut [u8], rom: &[u8], i: Stack) -> Bus
         Stack::PushR => do_push_r::push_r(file, ram, rom),
         Stack::Pop { to } => pop_place(file, ram, rom, to),
         Stack::PopSegment { seg } => pop_segment(file, ram, rom, seg),
-        Stack::PopPsw => pop_psw(file, ram, rom),
         Stack::PopR => do_push_r::pop_r(file, ram, rom),
         Stack::Prepare { size, level } => do_frame::prepare(file, ram, rom, size, level),
         Stack::Dispose => do_frame::dispose(file, ram, rom),

@@ -9,7 +9,7 @@ use sheet::Repeat;
 ghost use mathlib.Core.Path.{_≡_};
 ghost use Rattle.sheet.specs.declared.Primitive.the-variants as primitives;
 ghost use Rattle.sheet.specs.Block as tree;
-ghost use Rattle.mach_ports.specs.Accesses.{OnPorts};
+ghost use Rattle.mach_ports.specs.Lent.{UsesPorts, UsesPortsAndRam};
 ghost use Rattle.do_stream.specs.Streams.{primitiveOf};
 
 fn inm(
@@ -22,7 +22,7 @@ fn inm(
     word: bool,
     seg: u8,
 ) -> Ported
-    ensures { λ r. ⌜ OnPorts (tree.primitive primitives.Inm word seg) (now (file .entry)) (now (ram .entry)) (now (rom .entry)) (now (tape .entry)) (now (log .entry)) q (r .number) (now (file .exit)) (now (ram .exit)) (now (log .exit)) (r .progress) (r .bus) 4 ⌝ }
+    ensures { λ r. ⌜ UsesPortsAndRam (tree.primitive primitives.Inm word seg) file ram rom tape log q r 4 ⌝ }
 {
     let t = mach_ports::take(word, tape, log, q, file[DW]);
     let p = t.progress;
@@ -53,7 +53,7 @@ fn outm(
     word: bool,
     seg: u8,
 ) -> Ported
-    ensures { λ r. ⌜ OnPorts (tree.primitive primitives.Outm word seg) (now (file .entry)) (now (ram .entry)) (now (rom .entry)) (now (tape .entry)) (now (log .entry)) q (r .number) (now (file .exit)) (now (ram .entry)) (now (log .exit)) (r .progress) (r .bus) 4 ⌝ }
+    ensures { λ r. ⌜ UsesPorts (tree.primitive primitives.Outm word seg) file ram rom tape log q r 4 ⌝ }
 {
     let v = mach_element::source_element(word, file, ram, rom, seg);
     let g = mach_ports::give(word, log, q, file[DW], v.value);
@@ -100,7 +100,7 @@ fn primitive(
     word: bool,
     seg: u8,
 ) -> Ported
-    ensures { λ r. ⌜ OnPorts (tree.primitive (primitiveOf kind) word seg) (now (file .entry)) (now (ram .entry)) (now (rom .entry)) (now (tape .entry)) (now (log .entry)) q (r .number) (now (file .exit)) (now (ram .exit)) (now (log .exit)) (r .progress) (r .bus) 4 ⌝ }
+    ensures { λ r. ⌜ UsesPortsAndRam (tree.primitive (primitiveOf kind) word seg) file ram rom tape log q r 4 ⌝ }
 {
     match kind {
         Streaming::Inm => inm(file, ram, rom, tape, log, q, word, seg),
@@ -121,7 +121,7 @@ fn element(
     repeat: Repeat,
     start: u16,
 ) -> Ported
-    ensures { λ r. ⌜ OnPorts (tree.element (primitiveOf kind) word seg repeat start) (now (file .entry)) (now (ram .entry)) (now (rom .entry)) (now (tape .entry)) (now (log .entry)) q (r .number) (now (file .exit)) (now (ram .exit)) (now (log .exit)) (r .progress) (r .bus) 4 ⌝ }
+    ensures { λ r. ⌜ UsesPortsAndRam (tree.element (primitiveOf kind) word seg repeat start) file ram rom tape log q r 4 ⌝ }
 {
     let r = primitive(file, ram, rom, tape, log, q, kind, word, seg);
     let k = named(kind);
@@ -145,7 +145,7 @@ pub fn stream(
     repeat: Repeat,
     start: u16,
 ) -> Ported
-    ensures { λ r. ⌜ OnPorts (tree.block (primitiveOf kind) word seg repeat start) (now (file .entry)) (now (ram .entry)) (now (rom .entry)) (now (tape .entry)) (now (log .entry)) q (r .number) (now (file .exit)) (now (ram .exit)) (now (log .exit)) (r .progress) (r .bus) 4 ⌝ }
+    ensures { λ r. ⌜ UsesPortsAndRam (tree.block (primitiveOf kind) word seg repeat start) file ram rom tape log q r 4 ⌝ }
 {
     let due = mach_element::what_is_due(file[CW], repeat);
     match due {

@@ -11,11 +11,14 @@ use Rattle.sheet.specs.declared.State.{State}
 use Rattle.sheet.specs.declared.Instr.{Instr}
 use Rattle.sheet.specs.declared.Marks.{Marks}
 use Rattle.sheet.specs.declared.Progress.{Progress}
-use Rattle.sheet.specs.Registers.{PS, PC}
-use Rattle.sheet.specs.World.{World, world, stateOf}
+use Rattle.sheet.specs.Width.{pick}
+use Rattle.sheet.specs.Psw.{nativeOf}
+use Rattle.sheet.specs.Registers.{PS, PC, PSW}
+use Rattle.sheet.specs.World.{World, world, stateOf, pswOf}
 use Rattle.sheet.specs.Handler.{Outcome, run, kept, runBy, nothing}
-use Rattle.sheet.specs.Reading.{known}
+use Rattle.sheet.specs.Reading.{Reading, known}
 use Rattle.sheet.specs.FirstByte.{instruction}
+use Rattle.sheet.specs.CardCodes.{cardInstruction}
 use Rattle.sheet.specs.Contract.{Refuses, stops, exec, seen, report, reportOf}
 use Rattle.sheet.specs.Step.{refusal, source, codeByte, starting, stepping, decoded, awake, stepBy, step, stepReport, instructionIn}
 use Rattle.code_answer.specs.declared.Decoded.{Decoded}
@@ -30,16 +33,24 @@ use Rattle.step_one.specs.Proceeds.{Proceeds}
 use Rattle.step_calls.specs.declared.Answer.{Answer}
 use Rattle.step_one.specs.declared.Stepped.{Stepped}
 use Rattle.engine.specs.declared.Advanced.{Advanced}
-use Rattle.engine.specs.Steps.{refusedAt, advancedBy, answerOf, Carries, Advances, Moves, Steps}
+use Rattle.engine.specs.Steps.{refusedAt, advancedBy, answerOf, Carries, Advances, Moves, Steps, NextIn}
+
+-- the table of a mode
+abbrev readingIn : Bool → Reading Instr
+readingIn native = pick native instruction cardInstruction
 
 -- what a machine that is not halted comes to, by what stands at PS:PC
 pub awake-known : (w : World) (i : Instr) (n : ℕ) → w .state .marks .halted ≡ false → instructionIn w ≡ known i n → awake kept w ≡ runBy kept (stepping i n) (starting i w)
 unfolding awake decoded
 awake-known w i n h e = rw (e, h)
 
-awake-unknown : (w : World) (k : ℕ) → w .state .marks .halted ≡ false → Refuses Instr instruction (source w) 0 k → seen (awake kept w) ≡ stops k
+awake-unknown : (w : World) (k : ℕ) → w .state .marks .halted ≡ false → Refuses Instr (readingIn (nativeOf (pswOf (w .state)))) (source w) 0 k → seen (awake kept w) ≡ stops k
 unfolding instructionIn awake decoded
 awake-unknown w k h r = rw (r .is, h)
+
+pub next-in : (f ram rom : List ℕ) (ps pc : ℕ) (native : Bool) (r : Decoded) → ps ≡ getD f PS 0 → pc ≡ getD f PC 0 → native ≡ nativeOf (getD f PSW 0)
+    → Decodes (readingIn native) (codeByte ram rom ps pc) 0 r → NextIn f ram rom r
+next-in f ram rom ps pc native r a b o d = record { is = rw (a, b, o) at d }
 
 pub refused-as : (m : Marks) (q : Progress) (number : ℕ) (n : Bus) → Free n → record { done = false; number = number; marks = m; progress = q; bus = n } ≡ refusedAt m q number
 refused-as m q number n e = rw (e .is)
@@ -57,13 +68,13 @@ module _ (f : List ℕ) (m : Marks) (q : Progress) (ram rom tape log : List ℕ)
   unfolding awake
   advances-halted a h e = rw e (refused-so (stateOf f m q) ram rom tape log 8 (rw h))
 
-  module _ (ps pc : ℕ) (a : ps ≡ getD f PS 0) (b : pc ≡ getD f PC 0) (h : m .halted ≡ false) (r : Decoded) (d : Decodes instruction (codeByte ram rom ps pc) 0 r) where
+  module _ (h : m .halted ≡ false) (r : Decoded) (d : NextIn f ram rom r) where
     up : World
     up = world (stateOf f m q) ram rom tape log
 
-    read : {x : Decoded} → r ≡ x → Decodes instruction (source up) 0 x
+    read : {x : Decoded} → r ≡ x → Decodes (readingIn (nativeOf (pswOf (up .state)))) (source up) 0 x
     unfolding up
-    read e = rw (a, b, e) at d
+    read e = rw e at (d .is)
 
     pub advances-unknown : (k : ℕ) (x : Advanced) → r ≡ Unknown k → x ≡ refusedAt m q k
         → Advances (stateOf f m q) ram rom tape log (x .done) (x .number) (stateOf f (x .marks) (x .progress)) ram log (x .bus)

@@ -71,7 +71,7 @@ step-on v = checked-passed v refusal (awake kept v)
 -- an accepted call leaves a world that passes the checks again
 pub sound-so : (w : World) → Sound w → marksGood (w .state .marks) ≡ true → sound w ≡ true
 unfolding sound
-sound-so w s m = rw (s .fixed, le-leb _ _ (s .tape-in), le-leb _ _ (s .log-in), le-leb _ _ (s .count-in), m)
+sound-so w s m = rw (s .fixed, s .mode, le-leb _ _ (s .tape-in), le-leb _ _ (s .log-in), le-leb _ _ (s .count-in), m)
 
 pub fits-so : (w v : World) → Lent w v → fits w ≡ true → fits v ≡ true
 unfolding fits

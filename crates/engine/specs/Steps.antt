@@ -3,15 +3,23 @@ use Prim.Native.Nat.{ℕ, _≤_}
 use mathlib.Core.Bool.{Bool, true, false}
 use mathlib.Core.List.{List}
 use lib.Dec.{eqb}
+use lib.ListN.{getD}
 use mathlib.Core.Path.{_≡_}
 use Rattle.sheet.specs.declared.Bus.{Bus}
 use Rattle.sheet.specs.declared.State.{State}
 use Rattle.sheet.specs.declared.Marks.{Marks}
 use Rattle.sheet.specs.declared.Progress.{Progress}
+use Rattle.sheet.specs.Width.{pick}
+use Rattle.sheet.specs.Psw.{nativeOf}
+use Rattle.sheet.specs.Registers.{PS, PC, PSW}
 use Rattle.sheet.specs.World.{World, world, stateOf}
+use Rattle.sheet.specs.FirstByte.{instruction}
+use Rattle.sheet.specs.CardCodes.{cardInstruction}
 use Rattle.sheet.specs.Handler.{kept, nothing}
 use Rattle.sheet.specs.Contract.{Seen, stops, ends, seen, report, reportOf}
-use Rattle.sheet.specs.Step.{awake, stepReport}
+use Rattle.sheet.specs.Step.{codeByte, awake, stepReport}
+use Rattle.code_answer.specs.declared.Decoded.{Decoded}
+use Rattle.code_answer.specs.Answer.{Decodes}
 use Rattle.mach_tally.specs.Bounds.{Within}
 use Rattle.step_calls.specs.declared.Answer.{Answer}
 use Rattle.sheet.specs.declared.Instr.{Instr}
@@ -24,6 +32,10 @@ refusedAt m q number = record { done = false; number = number; marks = m; progre
 
 abbrev pub advancedBy : Stepped → Advanced
 advancedBy a = record { done = eqb (a .number) 0; number = a .number; marks = a .marks; progress = a .progress; bus = a .bus }
+
+-- what stands at PS:PC in the mode in force
+pub record NextIn (f ram rom : List ℕ) (r : Decoded) : Type 0 where
+  pub is : Decodes (pick (nativeOf (getD f PSW 0)) instruction cardInstruction) (codeByte ram rom (getD f PS 0) (getD f PC 0)) 0 r
 
 -- an instruction that was read
 pub record Carries (i : Instr) (size : ℕ) (f ram rom tape log : List ℕ) (m : Marks) (q : Progress) (x : Advanced) (f′ ram′ log′ : List ℕ) : Type 0 where

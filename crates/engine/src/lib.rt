@@ -2,6 +2,7 @@
 use code_answer::Decoded;
 use mach_registers::PC;
 use mach_registers::PS;
+use mach_registers::PSW;
 use sheet::Bus;
 use sheet::Instr;
 use sheet::Marks;
@@ -12,8 +13,8 @@ use step_one::Stepped;
 ghost use mathlib.Core.Path.{_≡_};
 ghost use Rattle.sheet.specs.World.{world, stateOf};
 ghost use Rattle.step_calls.specs.Calls.{checkNumber};
-ghost use Rattle.engine.specs.Steps.{refusedAt, advancedBy, answerOf, Carries, Advances, Moves, Steps};
-ghost use Rattle.engine.specs.Runs.{Runs};
+ghost use Rattle.engine.specs.Steps.{refusedAt, advancedBy, answerOf, NextIn};
+ghost use Rattle.engine.specs.Lent.{CarriesOn, AdvancesOn, MovesOn, StepsOn, RunsOn};
 
 // What comes of a step: done, or the number of its refusal, after which nothing has changed; the marks, the places, the bus.
 pub struct Advanced {
@@ -72,12 +73,20 @@ fn carry_out(
     i: Instr,
     size: u16,
 ) -> Advanced
-    ensures { λ r. ⌜ Carries i size (now (file .entry)) (now (ram .entry)) (now (rom .entry)) (now (tape .entry)) (now (log .entry)) marks q r (now (file .exit)) (now (ram .exit)) (now (log .exit)) ⌝ }
+    ensures { λ r. ⌜ CarriesOn i size file ram rom tape log marks q r ⌝ }
 {
     shown(step_one::proceed(file, ram, rom, tape, log, marks, q, i, size))
 }
 
-// The instruction at PS:PC, of a machine that has passed the checks 1 and 2.
+// The instruction at PS:PC in the mode in force.
+fn next(file: &[u16; 14], ram: &[u8], rom: &[u8]) -> Decoded
+    ensures { λ r. ⌜ NextIn (now (file .entry)) (now (ram .entry)) (now (rom .entry)) r ⌝ }
+{
+    let native = calc_flags::native(file[PSW]);
+    code_mode::decode(native, ram, rom, file[PS], file[PC])
+}
+
+// One step of a machine that has passed the checks 1 and 2.
 pub fn advance(
     file: &mut [u16; 14],
     ram: &mut [u8],
@@ -87,12 +96,12 @@ pub fn advance(
     marks: Marks,
     q: Progress,
 ) -> Advanced
-    ensures { λ r. ⌜ Advances (stateOf (now (file .entry)) marks q) (now (ram .entry)) (now (rom .entry)) (now (tape .entry)) (now (log .entry)) (r .done) (r .number) (stateOf (now (file .exit)) (r .marks) (r .progress)) (now (ram .exit)) (now (log .exit)) (r .bus) ⌝ }
+    ensures { λ r. ⌜ AdvancesOn file ram rom tape log marks q r ⌝ }
 {
     if marks.halted {
         return refuse(marks, q, 8);
     }
-    match code_decode::decode(ram, rom, file[PS], file[PC]) {
+    match next(file, ram, rom) {
         Decoded::Known { instr, size } => carry_out(
             file,
             ram,
@@ -138,7 +147,7 @@ fn answer(file: [u16; 14], a: Advanced) -> Answer
 
 // One step of a machine that has passed the checks 1 and 2.
 fn move_on(s: State, ram: &mut [u8], rom: &[u8], tape: &[u8], log: &mut [u8]) -> Answer
-    ensures { λ r. ⌜ Moves s (now (ram .entry)) (now (rom .entry)) (now (tape .entry)) (now (log .entry)) (r .number) (r .state) (now (ram .exit)) (now (log .exit)) (r .bus) ⌝ }
+    ensures { λ r. ⌜ MovesOn s ram rom tape log (r .number) (r .state) (r .bus) ⌝ }
 {
     let mut file = s.file;
     let marks = s.marks;
@@ -149,7 +158,7 @@ fn move_on(s: State, ram: &mut [u8], rom: &[u8], tape: &[u8], log: &mut [u8]) ->
 
 // One step: checks 1, 2, 8, then the instruction.
 pub fn step(s: State, ram: &mut [u8], rom: &[u8], tape: &[u8], log: &mut [u8]) -> Answer
-    ensures { λ r. ⌜ Steps s (now (ram .entry)) (now (rom .entry)) (now (tape .entry)) (now (log .entry)) (r .number) (r .state) (now (ram .exit)) (now (log .exit)) (r .bus) ⌝ }
+    ensures { λ r. ⌜ StepsOn s ram rom tape log (r .number) (r .state) (r .bus) ⌝ }
 {
     let number = step_calls::check(s, ram, rom, tape, log);
     if number != 0 {
@@ -165,7 +174,7 @@ pub fn step(s: State, ram: &mut [u8], rom: &[u8], tape: &[u8], log: &mut [u8]) -
 // Steps of a machine that has passed the checks 1 and 2, until one refuses or the budget is spent.
 fn go_on(s: State, ram: &mut [u8], rom: &[u8], tape: &[u8], log: &mut [u8], budget: u16) -> Ran
     requires { ⌜ checkNumber (world s (now ram) (now rom) (now tape) (now log)) ≡ 0 ⌝ }
-    ensures { λ r. ⌜ Runs budget s (now (ram .entry)) (now (rom .entry)) (now (tape .entry)) (now (log .entry)) (r .number) (r .state) (now (ram .exit)) (now (log .exit)) (r .steps) (r .bus) ⌝ }
+    ensures { λ r. ⌜ RunsOn budget s ram rom tape log (r .number) (r .state) (r .steps) (r .bus) ⌝ }
 {
     let mut file = s.file;
     let mut marks = s.marks;
@@ -199,7 +208,7 @@ fn go_on(s: State, ram: &mut [u8], rom: &[u8], tape: &[u8], log: &mut [u8], budg
 
 // A run of at most `budget` steps: checks 1 and 2 once, since no step makes them fail.
 pub fn run(s: State, ram: &mut [u8], rom: &[u8], tape: &[u8], log: &mut [u8], budget: u16) -> Ran
-    ensures { λ r. ⌜ Runs budget s (now (ram .entry)) (now (rom .entry)) (now (tape .entry)) (now (log .entry)) (r .number) (r .state) (now (ram .exit)) (now (log .exit)) (r .steps) (r .bus) ⌝ }
+    ensures { λ r. ⌜ RunsOn budget s ram rom tape log (r .number) (r .state) (r .steps) (r .bus) ⌝ }
 {
     let number = step_calls::check(s, ram, rom, tape, log);
     if number != 0 {

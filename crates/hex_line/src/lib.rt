@@ -2,7 +2,8 @@
 ghost use mathlib.Core.Path.{_≡_};
 ghost use Prim.Native.Nat.{_≤_};
 ghost use lib.ListN.{getD};
-ghost use Rattle.hex_form.specs.Line.{all, sum, digit, digitAt, byte, size, offset, kind, ending, width, span, taken, formed, summed, written};
+ghost use Rattle.hex_form.specs.Line.{all, sum, digit, digitAt, byte, size, offset, kind};
+ghost use Rattle.hex_form.specs.Line.{ending, width, span, taken, formed, summed, written};
 
 // Past the end of the text every character is 0.
 fn char_at(s: &[u8], i: usize) -> u8

@@ -7,12 +7,12 @@ ghost use mathlib.Core.List.{[], _∷_};
 ghost use Prim.Native.Nat.{_+_, _*_, _/_, _%_, _≤_};
 ghost use lib.ListN.{length};
 ghost use Rattle.base_laws.specs.Writes.{Writes};
-ghost use Rattle.base_line.specs.Adds.{Adds};
+ghost use Rattle.base_line.specs.Adds.{AddsTo};
 ghost use Rattle.hex_form.specs.Line.{sum};
 ghost use Rattle.hex_form.specs.Writing.{pairs, at, checksum, lineText, headBytes, lineBytes};
 
 fn put_pairs(line: &mut [u8; 80], at: usize, bytes: &[u8]) -> usize
-    ensures { λ r. ⌜ Adds (pairs (now (bytes .entry))) (now (line .entry)) at r (now (line .exit)) ⌝ }
+    ensures { λ r. ⌜ AddsTo (pairs (now (bytes .entry))) line at r ⌝ }
 {
     let mut end = at;
     let mut i = 0;
@@ -48,7 +48,7 @@ fn checksum_of(bytes: &[u8]) -> u64
 }
 
 fn put_line(line: &mut [u8; 80], bytes: &[u8]) -> usize
-    ensures { λ r. ⌜ Adds (lineText (now (bytes .entry))) (now (line .entry)) 0 r (now (line .exit)) ⌝ }
+    ensures { λ r. ⌜ AddsTo (lineText (now (bytes .entry))) line 0 r ⌝ }
 {
     let a = put_byte(line, 0, b':');
     let b = put_pairs(line, a, bytes);

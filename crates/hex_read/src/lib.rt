@@ -9,7 +9,8 @@ use hex_line::size_of;
 ghost use mathlib.Core.Path.{_≡_};
 ghost use Prim.Native.Nat.{_≤_};
 ghost use lib.ListN.{length};
-ghost use Rattle.hex_form.specs.Reading.{verdict, numberOf, verdictOf, store, stored, applied, firstStores, storeAt, lineStores, storesOf, Reads};
+ghost use Rattle.hex_form.specs.Reading.{verdict, numberOf, verdictOf, store, stored, applied};
+ghost use Rattle.hex_form.specs.Reading.{firstStores, storeAt, lineStores, storesOf, Reads};
 
 // 0, or the number and the line of a refusal.
 pub struct Checked {

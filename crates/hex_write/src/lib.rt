@@ -38,7 +38,8 @@ fn put_turn(out: &mut [u8], g: usize, a: usize) -> usize
 
 // A line of data, and before it the line of its segment where that is new.
 fn put_chunk(out: &mut [u8], g: usize, a: usize, x: &[u8]) -> usize
-    requires { ⌜ (g ≤ 65535) × ((a ≤ 1048575) × ((16 * g ≤ a) × ((length (now x) ≤ 16) × (length (chunkText g a (now x)) ≤ length (now out))))) ⌝ }
+    requires { ⌜ (g ≤ 65535) × ((a ≤ 1048575) × ((16 * g ≤ a)
+        × ((length (now x) ≤ 16) × (length (chunkText g a (now x)) ≤ length (now out))))) ⌝ }
     ensures { λ r. ⌜ Writes (chunkText g a (now (x .entry))) (now (out .entry)) r (now (out .exit)) ⌝ }
 {
     let at = put_turn(out, g, a);

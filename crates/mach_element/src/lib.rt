@@ -14,8 +14,8 @@ ghost use mathlib.Core.Bool.{Bool};
 ghost use Prim.Native.Nat.{ℕ};
 ghost use Rattle.sheet.specs.Registers as sheet;
 ghost use Rattle.sheet.specs.Block as tree;
-ghost use Rattle.sheet.specs.Contract.{OnFile, OnMemory};
-ghost use Rattle.mach_tally.specs.Lent.{Finds};
+ghost use Rattle.sheet.specs.Contract.{OnFile};
+ghost use Rattle.mach_tally.specs.Lent.{Finds, Fills};
 ghost use Rattle.mach_element.specs.Due.{countedDue, dueOf};
 
 // ---- the index registers
@@ -64,7 +64,7 @@ pub fn target_element(word: bool, file: &[u16; 14], ram: &[u8], rom: &[u8]) -> L
 }
 
 pub fn set_target(word: bool, file: &[u16; 14], ram: &mut [u8], rom: &[u8], v: u16) -> Bus
-    ensures { λ r. ⌜ OnMemory Unit (tree.setTarget word v) (now (file .entry)) (now (ram .entry)) (now (rom .entry)) tt (now (file .entry)) (now (ram .exit)) r 2 ⌝ }
+    ensures { λ r. ⌜ Fills Unit (tree.setTarget word v) file ram rom tt r 2 ⌝ }
 {
     let ds1 = file[DS1];
     let iy = file[IY];

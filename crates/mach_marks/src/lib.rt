@@ -6,18 +6,19 @@ use sheet::Stack;
 use sheet::Transfer;
 ghost use mathlib.Core.Bool.{true, false};
 ghost use mathlib.Core.Path.{_≡_};
-ghost use Rattle.sheet.specs.World.{marksOf, markHalted, markLoaded};
+ghost use Rattle.sheet.specs.World.{marksOf, markHalted, markLoaded, markWritable};
 ghost use Rattle.sheet.specs.Transfer.{movIn};
 ghost use Rattle.sheet.specs.Stack.{popIn};
 ghost use Rattle.sheet.specs.Step.{marksGood, movesIn, loadsSegment};
 
 // As after reset.
 pub fn none() -> Marks
-    ensures { λ r. ⌜ r ≡ marksOf false false ⌝ }
+    ensures { λ r. ⌜ r ≡ marksOf false false false ⌝ }
 {
     Marks {
         halted: false,
         loaded: false,
+        writable: false,
     }
 }
 
@@ -27,6 +28,7 @@ pub fn halting(m: Marks) -> Marks
     Marks {
         halted: true,
         loaded: m.loaded,
+        writable: m.writable,
     }
 }
 
@@ -36,6 +38,18 @@ pub fn woken(m: Marks) -> Marks
     Marks {
         halted: false,
         loaded: m.loaded,
+        writable: m.writable,
+    }
+}
+
+// The permission to write MD, given or taken back.
+pub fn permitting(m: Marks, b: bool) -> Marks
+    ensures { λ r. ⌜ r ≡ markWritable m b ⌝ }
+{
+    Marks {
+        halted: m.halted,
+        loaded: m.loaded,
+        writable: b,
     }
 }
 
@@ -75,7 +89,6 @@ fn pop_in(i: Stack) -> bool
         Stack::PushR => false,
         Stack::Pop { to } => false,
         Stack::PopSegment { seg } => true,
-        Stack::PopPsw => false,
         Stack::PopR => false,
         Stack::Prepare { size, level } => false,
         Stack::Dispose => false,
@@ -110,6 +123,8 @@ fn loads_segment(i: Instr) -> bool
         } => false,
         Instr::Ports(t) => false,
         Instr::Controls(t) => false,
+        Instr::Modes(t) => false,
+        Instr::Cards(t) => false,
     }
 }
 
@@ -120,5 +135,6 @@ pub fn begun(m: Marks, i: Instr) -> Marks
     Marks {
         halted: m.halted,
         loaded: loads_segment(i),
+        writable: m.writable,
     }
 }

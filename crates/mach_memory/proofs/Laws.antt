@@ -1,8 +1,8 @@
 -- What each return of the code comes to, over plain values.
-use Prim.Native.Nat.{ℕ, _+_, _-_, _*_, _/_, _%_, _≤_, _<_, zero-le}
+use Prim.Native.Nat.{ℕ, _+_, _-_, _*_, _/_, _%_, _≤_, _<_}
 use mathlib.Core.Path.{_≡_}
 use mathlib.Core.Bool.{Bool, true, false}
-use mathlib.Core.List.{List}
+use mathlib.Core.List.{List, []}
 use native.Mathlib.Omega.{arith}
 use lib.ListN.{length, getD, set, length-set}
 use lib.Seq.{set-out}
@@ -11,7 +11,7 @@ use Rattle.sheet.specs.declared.Bus.{Bus}
 use Rattle.sheet.specs.Width.{modOf}
 use Rattle.sheet.specs.Memory.{physical, next, byteAt, readMem, writeMem, lost, lostBytes}
 use Rattle.mach_tally.specs.Sums.{Costs}
-use Rattle.sheet.proofs.Lifted.{lost-fair, memory-peek, memory-poke}
+use Rattle.sheet.proofs.Lifted.{memory-peek, memory-poke}
 use Rattle.mach_memory.specs.Accesses.{Lands, Missed, Writes, Loads, Stores}
 
 pub byteAt-ram : (ram rom : List ℕ) (a b : ℕ) → a ≡ b → a < length ram → getD ram a 0 ≡ byteAt ram rom b
@@ -61,9 +61,14 @@ unfolding writeMem lostBytes
 write-byte w ram ram′ g o v x b p e k = record { is = rw (p, e .is); told = rw (p, k .is, e .told) }
 
 pub loads : (w : Bool) (ram rom : List ℕ) (g o v : ℕ) (n : Bus) → v ≡ readMem w ram rom g o → v < modOf w → Costs w o 0 n → Loads w ram rom g o v n
-loads w ram rom g o v n e h q = record { below = h; cost = q; fair = rw (q .is) zero-le; at = λ f. memory-peek w g o v n f ram rom e (q .is) }
+loads w ram rom g o v n e h q =
+    record { below = h; cost = q; fair = memory-peek w g o v n [] ram rom e (q .is) .fair; at = λ f. memory-peek w g o v n f ram rom e (q .is) }
 
 pub stores : (w : Bool) (ram ram′ : List ℕ) (g o v : ℕ) (d : ℕ) (n : Bus) → Writes w ram g o v ram′ d → Costs w o d n → Stores w ram g o v ram′ n
 stores w ram ram′ g o v d n e q =
     let c : Costs w o (lostBytes w ram g o) n = rw (e .told) at q in
-    record { cost = c; fair = rw (c .is) (lost-fair w ram g o); at = λ f rom. memory-poke w g o v n f ram rom ram′ (e .is) (c .is) }
+    record {
+      cost = c;
+      fair = memory-poke w g o v n [] ram [] ram′ (e .is) (c .is) .fair;
+      at = λ f rom. memory-poke w g o v n f ram rom ram′ (e .is) (c .is);
+    }

@@ -1,5 +1,5 @@
 -- What one access of memory comes to, whatever the registers are.
-use Prim.Native.Nat.{ℕ, _*_, _≤_, _<_}
+use Prim.Native.Nat.{ℕ, _≤_, _<_}
 use mathlib.Core.Bool.{Bool}
 use mathlib.Core.List.{List}
 use mathlib.Core.Path.{_≡_}
@@ -9,6 +9,7 @@ use Rattle.sheet.specs.Width.{pick, modOf}
 use Rattle.sheet.specs.Memory.{writeMem, lost, lostBytes}
 use Rattle.sheet.specs.Act.{peek, poke}
 use Rattle.mach_tally.specs.Sums.{Costs}
+use Rattle.mach_tally.specs.Bounds.{Fair}
 use Rattle.sheet.specs.Contract.{OnMemory}
 
 -- a byte was written, or dropped
@@ -27,10 +28,10 @@ pub record Writes (w : Bool) (ram : List ℕ) (g o v : ℕ) (ram′ : List ℕ) 
 pub record Loads (w : Bool) (ram rom : List ℕ) (g o v : ℕ) (n : Bus) : Type 0 where
   pub below : v < modOf w
   pub cost : Costs w o 0 n
-  pub fair : n .dropped ≤ 2 * n .cycles
+  pub fair : Fair n
   pub at : (f : List ℕ) → OnMemory ℕ (peek w g o) f ram rom v f ram n 2
 
 pub record Stores (w : Bool) (ram : List ℕ) (g o v : ℕ) (ram′ : List ℕ) (n : Bus) : Type 0 where
   pub cost : Costs w o (lostBytes w ram g o) n
-  pub fair : n .dropped ≤ 2 * n .cycles
+  pub fair : Fair n
   pub at : (f rom : List ℕ) → OnMemory Unit (poke w g o v) f ram rom tt f ram′ n 2

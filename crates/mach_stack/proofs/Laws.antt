@@ -1,25 +1,30 @@
 -- What each return of the code comes to, over plain values.
-use Prim.Native.Nat.{ℕ, _+_, _*_, _%_, _≤_, _<_}
-use mathlib.Core.Bool.{true}
-use mathlib.Core.List.{List}
-use mathlib.Core.Path.{_≡_}
+use Prim.Native.Nat.{ℕ, zero, suc, _+_, _*_, _%_, _≤_, _<_}
+use mathlib.Core.Bool.{true, false}
+use mathlib.Core.List.{List, [], _∷_}
+use mathlib.Core.Path.{_≡_, refl, ap, sym, _∙_}
+use native.Mathlib.Nat.{add-le-add}
 use native.Mathlib.Omega.{arith}
 use lib.ListN.{getD, set}
+use lib.Seq.{getD-set-other}
 use Rattle.sheet.specs.declared.Bus.{Bus}
+use Rattle.sheet.specs.declared.State.{State}
 use Rattle.sheet.specs.Width.{add16, sub16}
-use Rattle.sheet.specs.Psw.{keeps, entering, settled}
+use Rattle.sheet.specs.Psw.{keeps, entering, settled, inMode}
 use Rattle.sheet.specs.Registers.{SP, SS, PS, PC, PSW}
 use Rattle.sheet.specs.Memory.{busCycles}
+use Rattle.sheet.specs.World.{stateOf, marksOf, progressOf}
+use Rattle.sheet.specs.Act as act
 use Rattle.sheet.specs.Act.{peek}
-use Rattle.sheet.specs.Handler.{_⊕_}
-use Rattle.sheet.specs.Traps.{push, pop, pushPsw, pushPsPc, jumpFar, save, trap}
-use Rattle.sheet.specs.Contract.{OnMemory}
+use Rattle.sheet.specs.Handler.{runBy, run, _⊕_}
+use Rattle.sheet.specs.Traps.{push, pop, pushPsw, pushPsPc, jumpFar, save, vectored, entered, trap}
+use Rattle.sheet.specs.Contract.{Seen, stops, ends, exec, OnFile, OnMemory}
 use Rattle.sheet.proofs.Rules.{⊕-assoc}
-use Rattle.sheet.proofs.Lifted.{file-seq, file-pure, file-registers, file-set, file-psw, file-flags, memory-seq, memory-free, memory-last}
+use Rattle.sheet.proofs.Lifted.{file-seq, file-pure, file-registers, file-set, file-psw, file-flags, file-native, memory-seq, memory-free, memory-last, on-marks, file-marks, off-marks, marks-seq, marks-free, marks-last}
 use Rattle.calc_word.proofs.WidthLaws.{wrap-id}
 use Rattle.mach_memory.specs.Accesses.{Loads, Stores}
 use Rattle.mach_tally.specs.Sums.{Costs, Joins}
-use Rattle.mach_stack.specs.Vector.{Fetches}
+use Rattle.mach_stack.specs.Vector.{Fetches, Surrounds}
 
 pub push-is : (f ram rom ram′ : List ℕ) (v sp ss : ℕ) (n : Bus) → sp ≡ sub16 (getD f SP 0) 2 → ss ≡ getD f SS 0 → Stores true ram ss sp v ram′ n
     → OnMemory Unit (push v) f ram rom tt (set f SP sp) ram′ n 2
@@ -42,11 +47,30 @@ pushed-psw : (f g ram ram₁ rom : List ℕ) (old : ℕ) (n : Bus) → old ≡ g
 unfolding pushPsw
 pushed-psw f g ram ram₁ rom old n e l p = memory-free _ (file-psw true) (rw (← e, wrap-id true old l) p)
 
-pub save-is : (f g h ram ram₁ ram₂ rom : List ℕ) (old x : ℕ) (n m : Bus) → old ≡ getD f PSW 0 → old < 65536 → OnMemory Unit (push old) f ram rom tt g ram₁ n 2
-    → x ≡ settled keeps entering (getD g PSW 0) → OnMemory Unit pushPsPc (set g PSW x) ram₁ rom tt h ram₂ m 4 → OnMemory Unit save f ram rom tt h ram₂ (n ⊕ m) 6
+-- a push leaves PSW as it was
+kept-psw : (f g ram ram₁ rom : List ℕ) (v : ℕ) (n : Bus) → OnMemory Unit (push v) f ram rom tt g ram₁ n 2 → getD g PSW 0 ≡ getD f PSW 0
+unfolding exec run runBy push act._>>=_
+kept-psw f g ram ram₁ rom v n h =
+    let e : _ ≡ getD g PSW 0 = ap file-psw-of (h .at nowhere [] [] .is) in
+    sym e ∙ getD-set-other f SP PSW (sub16 (getD f SP 0) 2) 0 (omega arith)
+  where
+    nowhere : State
+    nowhere = stateOf [] (marksOf false false false) (progressOf 0 0 0)
+
+    file-psw-of : Seen Unit → ℕ
+    file-psw-of (stops k) = 0
+    file-psw-of (ends a w c) = getD (w .state .file) PSW 0
+
+pub save-is : (f g h ram ram₁ ram₂ rom : List ℕ) (old x : ℕ) (n m r : Bus) → old ≡ getD f PSW 0 → old < 65536 → OnMemory Unit (push old) f ram rom tt g ram₁ n 2
+    → OnMemory Unit pushPsPc (set g PSW x) ram₁ rom tt h ram₂ m 4 → Joins n m r → Surrounds save x f ram rom h ram₂ r 6
 unfolding save
-save-is f g h ram ram₁ ram₂ rom old x n m e l p q k =
-    memory-seq _ {t = 2} {u = 4} (pushed-psw f g ram ram₁ rom old n e l p) (memory-free _ (file-flags entering q) k)
+save-is f g h ram ram₁ ram₂ rom old x n m r e l p k j = rw (j .is) record {
+  most = add-le-add (p .most) (k .most);
+  fair = (let a = p .fair in let b = k .fair in omega arith);
+  at = λ change a b c.
+      marks-seq _ {t = 2} {u = 4} (on-marks a (pushed-psw f g ram ram₁ rom old n e l p))
+      (marks-free _ (c g ram₁ rom (kept-psw f g ram ram₁ rom old n p)) (on-marks b k));
+}
 
 -- a word at an even offset takes one cycle
 even-word : (o : ℕ) (n : Bus) → Costs true o 0 n → o % 2 ≡ 0 → n .cycles ≤ 1
@@ -70,9 +94,31 @@ fetches ram rom v at pc ps n m r e p q j =
       base = rw (← e) (loads-even ram rom (at + 2) ps m q (omega arith));
     }
 
-pub trap-is : (f g ram ram′ rom : List ℕ) (v pc ps : ℕ) (n m : Bus) → Fetches ram rom v pc ps n → OnMemory Unit save f ram rom tt g ram′ m 6
-    → OnMemory Unit (trap v) f ram rom tt (set (set g PS ps) PC pc) ram′ (n ⊕ m) 8
-unfolding trap jumpFar
-trap-is f g ram ram′ rom v pc ps n m h k =
-    rw (h .sum, ⊕-assoc (h .first) (h .second) m)
-    (memory-seq _ {t = 1} {u = 7} (h .offset f) (memory-seq _ {t = 1} {u = 6} (h .base f) (memory-last _ k (file-seq _ (file-set PS ps) (file-set PC pc)))))
+pub vectored-is : (f g ram ram′ rom : List ℕ) (v x pc ps : ℕ) (n m r : Bus) → Fetches ram rom v pc ps n → Surrounds save x f ram rom g ram′ m 6 → Joins n m r
+    → Surrounds (λ c. vectored c v) x f ram rom (set (set g PS ps) PC pc) ram′ r 8
+unfolding vectored jumpFar
+vectored-is f g ram ram′ rom v x pc ps n m r h k j = rw (j .is) record {
+  most = add-le-add (h .most) (k .most);
+  fair = (let a = h .fair in let b = k .fair in omega arith);
+  at = λ change a b c.
+      rw (h .sum, ⊕-assoc (h .first) (h .second) m)
+      (marks-seq _ {t = 1} {u = 7} (on-marks a (h .offset f))
+      (marks-seq _ {t = 1} {u = 6} (on-marks a (h .base f)) (marks-last _ (k .at change a b c) (file-marks (file-seq _ (file-set PS ps) (file-set PC pc))))));
+}
+
+-- a second write covers the first, and reads it, but where there is no such place
+written-twice : (k : ℕ → ℕ) (d : List ℕ) (i y : ℕ) → set (set d i y) i (k (getD (set d i y) i 0)) ≡ set d i (k y)
+written-twice k [] i y = refl
+written-twice k (a ∷ d) zero y = refl
+written-twice k (a ∷ d) (suc i) y = ap (λ l. a ∷ l) (written-twice k d i y)
+
+entered-is : (d : List ℕ) (x : ℕ) → x ≡ inMode true (settled keeps entering (getD d PSW 0)) → OnFile Unit entered d tt (set d PSW x)
+unfolding entered
+entered-is d x e =
+    rw (e, ← written-twice (inMode true) d PSW (settled keeps entering (getD d PSW 0)))
+    (file-seq _ (file-flags entering refl) (file-native refl))
+
+pub trap-is : (f g ram ram′ rom : List ℕ) (v x : ℕ) (n : Bus) → x ≡ inMode true (settled keeps entering (getD f PSW 0)) → Surrounds (λ c. vectored c v) x f ram rom g ram′ n 8
+    → OnMemory Unit (trap v) f ram rom tt g ram′ n 8
+unfolding trap entered
+trap-is f g ram ram′ rom v x n e h = off-marks (h .most) (h .fair) (λ a. h .at entered a a (λ d r s q. file-marks (entered-is d x (e ∙ rw (← q)))))

@@ -10,7 +10,7 @@ ghost use mathlib.Core.Path.{_≡_};
 ghost use Prim.Native.Nat.{ℕ};
 ghost use Rattle.sheet.specs.Traps as tree;
 ghost use Rattle.mach_tally.specs.Lent.{Does, Takes};
-ghost use Rattle.mach_stack.specs.Vector.{Fetches};
+ghost use Rattle.mach_stack.specs.Vector.{Fetches, Around};
 
 pub fn push(file: &mut [u16; 14], ram: &mut [u8], rom: &[u8], v: u16) -> Bus
     ensures { λ r. ⌜ Does (tree.push v) file ram rom r 2 ⌝ }
@@ -40,13 +40,13 @@ pub fn push_ps_pc(file: &mut [u16; 14], ram: &mut [u8], rom: &[u8]) -> Bus
     mach_tally::both(a, b)
 }
 
-// PSW, PS and the PC then due go onto the stack; IE and BRK become 0.
-fn save(file: &mut [u16; 14], ram: &mut [u8], rom: &[u8]) -> Bus
-    ensures { λ r. ⌜ Does tree.save file ram rom r 6 ⌝ }
+// PSW, PS and the PC then due go onto the stack; PSW becomes x once it is there.
+fn save(file: &mut [u16; 14], ram: &mut [u8], rom: &[u8], x: u16) -> Bus
+    ensures { λ r. ⌜ Around tree.save x file ram rom r 6 ⌝ }
 {
     let old = calc_word::word(file[PSW]);
     let a = push(file, ram, rom, old);
-    file[PSW] = calc_psw::enter(file[PSW]);
+    file[PSW] = x;
     let b = push_ps_pc(file, ram, rom);
     mach_tally::both(a, b)
 }
@@ -77,12 +77,20 @@ pub struct Worked {
     pub bus: Bus,
 }
 
-pub fn trap(file: &mut [u16; 14], ram: &mut [u8], rom: &[u8], v: u8) -> Bus
-    ensures { λ r. ⌜ Does (tree.trap v) file ram rom r 8 ⌝ }
+// To where a vector points, with PSW changed to x.
+pub fn vectored(file: &mut [u16; 14], ram: &mut [u8], rom: &[u8], v: u8, x: u16) -> Bus
+    ensures { λ r. ⌜ Around (λ c. tree.vectored c v) x file ram rom r 8 ⌝ }
 {
     let at = vector(ram, rom, v);
-    let b = save(file, ram, rom);
+    let b = save(file, ram, rom, x);
     file[PS] = at.ps;
     file[PC] = at.pc;
     mach_tally::both(at.bus, b)
+}
+
+pub fn trap(file: &mut [u16; 14], ram: &mut [u8], rom: &[u8], v: u8) -> Bus
+    ensures { λ r. ⌜ Does (tree.trap v) file ram rom r 8 ⌝ }
+{
+    let x = calc_psw::enter(file[PSW]);
+    vectored(file, ram, rom, v, x)
 }

@@ -5,6 +5,10 @@ use mathlib.Core.Path.{_≡_}
 use Rattle.sheet.specs.declared.Bus.{Bus}
 use Rattle.sheet.specs.Handler.{nothing, _⊕_, busWith}
 
+-- so many bus cycles and nothing else, in examples
+abbrev pub cyclesOnly : ℕ → Bus
+cyclesOnly n = record { cycles = n; dropped = 0 }
+
 pub record Free (r : Bus) : Type 0 where
   pub is : r ≡ nothing
 

@@ -16,9 +16,8 @@ ghost use Rattle.sheet.specs.Act.{affect};
 ghost use Rattle.sheet.specs.Arithmetic as tree;
 ghost use Rattle.sheet.specs.Transfer.{mov};
 ghost use Rattle.sheet.specs.Branch.{jump, branchIf, dbnz as dbnzOf};
-ghost use Rattle.sheet.specs.Contract.{OnFile};
 ghost use Rattle.quick_place.specs.Packed.{opOf, unaryAt, condOf, wordOf, rmOf, regOf, dispOf, immOf, addressOf};
-ghost use Rattle.quick_do.specs.Settle.{settle};
+ghost use Rattle.quick_do.specs.Settle.{Sets, settle};
 
 // ---- the reading's fields
 
@@ -129,7 +128,7 @@ pub fn base(file: &[u16; 14], r: u64) -> u16
 
 // CMP drops the difference.
 fn conclude(file: &mut [u16; 14], op: Operation, word: bool, n: u8, v: u16)
-    ensures { λ _. ⌜ OnFile Unit (tree.conclude op word (InRegister n) v) (now (file .entry)) tt (now (file .exit)) ⌝ }
+    ensures { λ _. ⌜ Sets (tree.conclude op word (InRegister n) v) file ⌝ }
 {
     match op {
         Operation::Add => mach_registers::set_reg(word, file, n, v),
@@ -145,7 +144,7 @@ fn conclude(file: &mut [u16; 14], op: Operation, word: bool, n: u8, v: u16)
 
 // An operation on a register and a number.
 pub fn alu_to(file: &mut [u16; 14], op: Operation, word: bool, to: u8, b: u16)
-    ensures { λ _. ⌜ OnFile Unit (settle op word (InRegister to) (readReg word (fileOf (now (file .entry))) to) b) (now (file .entry)) tt (now (file .exit)) ⌝ }
+    ensures { λ _. ⌜ Sets (settle op word (InRegister to) (readReg word (fileOf (now (file .entry))) to) b) file ⌝ }
 {
     let a = mach_registers::reg(word, file, to);
     let x = calc_arith::operate(op, word, a, b, file[PSW]);
@@ -155,7 +154,7 @@ pub fn alu_to(file: &mut [u16; 14], op: Operation, word: bool, to: u8, b: u16)
 
 // Kind 1: an operation on two registers.
 pub fn alu_rr(file: &mut [u16; 14], r: u64)
-    ensures { λ _. ⌜ OnFile Unit (tree.two (operationAt (opOf r)) (wordOf r) (Register (rmOf r)) (Held (Register (regOf r)))) (now (file .entry)) tt (now (file .exit)) ⌝ }
+    ensures { λ _. ⌜ Sets (tree.two (operationAt (opOf r)) (wordOf r) (Register (rmOf r)) (Held (Register (regOf r)))) file ⌝ }
 {
     let op = op_of(r);
     let word = word_of(r);
@@ -165,7 +164,7 @@ pub fn alu_rr(file: &mut [u16; 14], r: u64)
 
 // Kind 4: MOV reg,reg.
 pub fn mov_rr(file: &mut [u16; 14], r: u64)
-    ensures { λ _. ⌜ OnFile Unit (mov (wordOf r) (Register (rmOf r)) (Held (Register (regOf r)))) (now (file .entry)) tt (now (file .exit)) ⌝ }
+    ensures { λ _. ⌜ Sets (mov (wordOf r) (Register (rmOf r)) (Held (Register (regOf r)))) file ⌝ }
 {
     let word = word_of(r);
     let v = mach_registers::reg(word, file, reg_of(r));
@@ -174,7 +173,7 @@ pub fn mov_rr(file: &mut [u16; 14], r: u64)
 
 // Kind 7: MOV reg,imm.
 pub fn mov_ri(file: &mut [u16; 14], r: u64)
-    ensures { λ _. ⌜ OnFile Unit (mov (wordOf r) (Register (rmOf r)) (Immediate (immOf r))) (now (file .entry)) tt (now (file .exit)) ⌝ }
+    ensures { λ _. ⌜ Sets (mov (wordOf r) (Register (rmOf r)) (Immediate (immOf r))) file ⌝ }
 {
     let word = word_of(r);
     mach_registers::set_reg(word, file, rm_of(r), imm_of(r));
@@ -182,14 +181,14 @@ pub fn mov_ri(file: &mut [u16; 14], r: u64)
 
 // Kind 10: a conditional branch.
 pub fn branch_if(file: &mut [u16; 14], r: u64)
-    ensures { λ _. ⌜ OnFile Unit (branchIf (condOf r) (dispOf r)) (now (file .entry)) tt (now (file .exit)) ⌝ }
+    ensures { λ _. ⌜ Sets (branchIf (condOf r) (dispOf r)) file ⌝ }
 {
     do_conditional::branch_if(file, (r / 1048576 % 16) as u8, disp_of(r));
 }
 
 // Kind 16: an operation on a register and an immediate.
 pub fn alu_ri(file: &mut [u16; 14], r: u64)
-    ensures { λ _. ⌜ OnFile Unit (tree.two (operationAt (opOf r)) (wordOf r) (Register (rmOf r)) (Immediate (immOf r))) (now (file .entry)) tt (now (file .exit)) ⌝ }
+    ensures { λ _. ⌜ Sets (tree.two (operationAt (opOf r)) (wordOf r) (Register (rmOf r)) (Immediate (immOf r))) file ⌝ }
 {
     let op = op_of(r);
     let word = word_of(r);
@@ -198,7 +197,7 @@ pub fn alu_ri(file: &mut [u16; 14], r: u64)
 
 // Kind 19: INC, DEC, NOT, NEG of a register.
 pub fn one_r(file: &mut [u16; 14], r: u64)
-    ensures { λ _. ⌜ OnFile Unit (tree.one (unaryAt (opOf r)) (wordOf r) (Register (rmOf r))) (now (file .entry)) tt (now (file .exit)) ⌝ }
+    ensures { λ _. ⌜ Sets (tree.one (unaryAt (opOf r)) (wordOf r) (Register (rmOf r))) file ⌝ }
 {
     let word = word_of(r);
     let n = rm_of(r);
@@ -210,14 +209,14 @@ pub fn one_r(file: &mut [u16; 14], r: u64)
 
 // Kinds 21 and 22: BR near and short.
 pub fn br(file: &mut [u16; 14], r: u64)
-    ensures { λ _. ⌜ OnFile Unit (jump (dispOf r)) (now (file .entry)) tt (now (file .exit)) ⌝ }
+    ensures { λ _. ⌜ Sets (jump (dispOf r)) file ⌝ }
 {
     mach_jump::jump(file, disp_of(r));
 }
 
 // Kind 23: DBNZ.
 pub fn dbnz(file: &mut [u16; 14], r: u64)
-    ensures { λ _. ⌜ OnFile Unit (dbnzOf (dispOf r)) (now (file .entry)) tt (now (file .exit)) ⌝ }
+    ensures { λ _. ⌜ Sets (dbnzOf (dispOf r)) file ⌝ }
 {
     let cw = calc_word::minus16(file[CW], 1);
     file[CW] = cw;
@@ -228,7 +227,7 @@ pub fn dbnz(file: &mut [u16; 14], r: u64)
 
 // The flags of TEST.
 pub fn test(file: &mut [u16; 14], word: bool, a: u16, b: u16)
-    ensures { λ _. ⌜ OnFile Unit (affect (tree.logical word (bitAnd a b) .column)) (now (file .entry)) tt (now (file .exit)) ⌝ }
+    ensures { λ _. ⌜ Sets (affect (tree.logical word (bitAnd a b) .column)) file ⌝ }
 {
     let x = calc_arith::logic(word, a & b, file[PSW]);
     file[PSW] = x.psw;
@@ -236,7 +235,7 @@ pub fn test(file: &mut [u16; 14], word: bool, a: u16, b: u16)
 
 // Kind 28: TEST of two registers.
 pub fn test_rr(file: &mut [u16; 14], r: u64)
-    ensures { λ _. ⌜ OnFile Unit (tree.test (wordOf r) (Register (rmOf r)) (Held (Register (regOf r)))) (now (file .entry)) tt (now (file .exit)) ⌝ }
+    ensures { λ _. ⌜ Sets (tree.test (wordOf r) (Register (rmOf r)) (Held (Register (regOf r)))) file ⌝ }
 {
     let word = word_of(r);
     let a = mach_registers::reg(word, file, rm_of(r));
@@ -246,7 +245,7 @@ pub fn test_rr(file: &mut [u16; 14], r: u64)
 
 // Kind 29: TEST of a register and an immediate.
 pub fn test_ri(file: &mut [u16; 14], r: u64)
-    ensures { λ _. ⌜ OnFile Unit (tree.test (wordOf r) (Register (rmOf r)) (Immediate (immOf r))) (now (file .entry)) tt (now (file .exit)) ⌝ }
+    ensures { λ _. ⌜ Sets (tree.test (wordOf r) (Register (rmOf r)) (Immediate (immOf r))) file ⌝ }
 {
     let word = word_of(r);
     let a = mach_registers::reg(word, file, rm_of(r));

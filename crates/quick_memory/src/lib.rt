@@ -87,7 +87,8 @@ pub fn mov_mi(file: &[u16; 14], ram: &mut [u8], rom: &[u8], r: u64) -> u64
 
 // An operation on a register and memory.
 pub fn alu_rm(file: &mut [u16; 14], ram: &[u8], rom: &[u8], r: u64) -> u64
-    ensures { λ n. ⌜ Takes Unit (two (operationAt (opOf r)) (wordOf r) (Register (regOf r)) (Held (Memory (addressOf r)))) file ram rom tt (busAt n) 6 ⌝ }
+    ensures { λ n. ⌜ Takes Unit (two (operationAt (opOf r)) (wordOf r) (Register (regOf r)) (Held (Memory (addressOf r))))
+        file ram rom tt (busAt n) 6 ⌝ }
 {
     let word = quick_do::word_of(r);
     let g = quick_do::base(file, r);
@@ -132,7 +133,8 @@ fn alu_at(file: &mut [u16; 14], ram: &mut [u8], rom: &[u8], r: u64, b: u16) -> u
 
 // An operation on memory and a register.
 pub fn alu_mr(file: &mut [u16; 14], ram: &mut [u8], rom: &[u8], r: u64) -> u64
-    ensures { λ n. ⌜ Does (two (operationAt (opOf r)) (wordOf r) (Memory (addressOf r)) (Held (Register (regOf r)))) file ram rom (busAt n) 6 ⌝ }
+    ensures { λ n. ⌜ Does (two (operationAt (opOf r)) (wordOf r) (Memory (addressOf r)) (Held (Register (regOf r))))
+        file ram rom (busAt n) 6 ⌝ }
 {
     let b = mach_registers::reg(quick_do::word_of(r), file, quick_do::reg_of(r));
     alu_at(file, ram, rom, r, b)

@@ -51,7 +51,8 @@ fn shift_by(file: &mut [u16; 14], ram: &mut [u8], rom: &[u8], r: u64, to: Place)
 
 // Kind 37: a register by a count.
 pub fn shift_r(file: &mut [u16; 14], ram: &mut [u8], rom: &[u8], r: u64) -> u64
-    ensures { λ n. ⌜ Does (shift (shiftAt (opOf r)) (wordOf r) (Register (rmOf r)) (Counted (amountAt (regOf r) (immOf r)))) file ram rom (busAt n) 384 ⌝ }
+    ensures { λ n. ⌜ Does (shift (shiftAt (opOf r)) (wordOf r) (Register (rmOf r)) (Counted (amountAt (regOf r) (immOf r))))
+        file ram rom (busAt n) 384 ⌝ }
 {
     let to = Place::Register(quick_do::rm_of(r));
     shift_by(file, ram, rom, r, to)
@@ -59,7 +60,8 @@ pub fn shift_r(file: &mut [u16; 14], ram: &mut [u8], rom: &[u8], r: u64) -> u64
 
 // Kind 38: memory by a count.
 pub fn shift_m(file: &mut [u16; 14], ram: &mut [u8], rom: &[u8], r: u64) -> u64
-    ensures { λ n. ⌜ Does (shift (shiftAt (opOf r)) (wordOf r) (Memory (addressOf r)) (Counted (amountAt (regOf r) (immOf r)))) file ram rom (busAt n) 384 ⌝ }
+    ensures { λ n. ⌜ Does (shift (shiftAt (opOf r)) (wordOf r) (Memory (addressOf r)) (Counted (amountAt (regOf r) (immOf r))))
+        file ram rom (busAt n) 384 ⌝ }
 {
     let to = Place::Memory(address_of(r));
     shift_by(file, ram, rom, r, to)

@@ -43,7 +43,7 @@ number-none x h = rw (le-leb 256 x h)
 
 -- ---- the two ends
 
-pub stands-done : (p p′ : List ℕ) (q : Progress) → Holds p′ (marksOf false false) q → Stands p 0 p′ q
+pub stands-done : (p p′ : List ℕ) (q : Progress) → Holds p′ (marksOf false false false) q → Stands p 0 p′ q
 stands-done p p′ q h = record { done = λ z. h; stop = λ z. absurd (z refl) }
 
 pub stands-stop : (p p′ : List ℕ) (number : ℕ) (q : Progress) → (number ≡ 0 → ⊥) → p′ ≡ p → Stands p number p′ q

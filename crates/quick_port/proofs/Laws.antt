@@ -8,9 +8,9 @@ use native.Mathlib.Omega.{arith}
 use lib.Dec.{lit≤}
 use lib.ListN.{length, getD, set}
 use borrow.Author.Tests.{eq-eqb, ne-eqb}
-use Rattle.log_record.specs.declared.Put.{Put}
-use Rattle.log_record.specs.declared.Put.the-variants.{Done, Full, Beyond}
-use Rattle.log_record.specs.Put.{Logs}
+use Rattle.mach_ports.specs.declared.Put.{Put}
+use Rattle.mach_ports.specs.declared.Put.the-variants.{Done, Full, Beyond}
+use Rattle.mach_ports.specs.Put.{Logs}
 use Rattle.sheet.specs.declared.Bus.{Bus}
 use Rattle.sheet.specs.declared.Progress.{Progress}
 use Rattle.sheet.specs.declared.Io.the-variants.{In, Out}
@@ -49,7 +49,7 @@ module _ (b log log′ p : List ℕ) (next count at : ℕ) (r : Put) where
       record {
         places = progressOf next (at + n) 0;
         records = rw e (records-done b log log′ (countedAt p count) next r (rw e at l) n k);
-        stands = stands-done p p′ _ (keeps p p′ (marksOf false false) (progressOf next (at + n) 0) 0 0 h (refl, lit≤ tt) (refl, lit≤ tt) (lit≤ tt) q);
+        stands = stands-done p p′ _ (keeps p p′ (marksOf false false false) (progressOf next (at + n) 0) 0 0 0 h (refl, lit≤ tt) (refl, lit≤ tt) (refl, lit≤ tt) (lit≤ tt) q);
       }
 
   pub lodge-full : Logs b at log r log′ → at ≡ getD p 1 0 → r ≡ Full → Lodges b next count log p 6 log′ p

@@ -15,6 +15,8 @@ use Rattle.mach_tally.specs.Sums.{Costs}
 use Rattle.mach_ports.specs.Accesses.{Records, Gives, Takes, OnPorts}
 use Rattle.quick_tally.specs.Packed.{busAt}
 use Rattle.quick_stand.specs.Stand.{Holds}
+use denote.Ref.{now}
+use Rattle.mach_tally.specs.Lent.{Lent}
 
 -- a turn as one number: that of a refusal, or 256 and what its accesses come to
 unfoldable pub numberOf : ℕ → ℕ
@@ -29,7 +31,7 @@ countedAt p count = progressOf (getD p 0 0) (getD p 1 0) count
 
 -- no mark is left, and the places are those of q; a refusal leaves all as it was
 pub record Stands (p : List ℕ) (number : ℕ) (p′ : List ℕ) (q : Progress) : Type 0 where
-  pub done : number ≡ 0 → Holds p′ (marksOf false false) q
+  pub done : number ≡ 0 → Holds p′ (marksOf false false false) q
   pub stop : (number ≡ 0 → ⊥) → p′ ≡ p
 
 -- a record of the bytes b, with the tape's place then at `next`
@@ -61,3 +63,18 @@ pub record Reaches (t : Act Unit) (f ram rom tape log p : List ℕ) (count x : �
   pub does : OnPorts t f ram rom tape log (countedAt p count) (numberOf x) f′ ram′ log′ places (costOf x) 4
   pub some : 1 ≤ x
   pub stands : Stands p (numberOf x) p′ places
+
+-- ---- with what is lent
+
+abbrev pub LodgesOn : List ℕ → (next count : ℕ) → Lent → Lent → ℕ → Type 0
+LodgesOn b next count log stand r = Lodges b next count (now (log .entry)) (now (stand .entry)) r (now (log .exit)) (now (stand .exit))
+
+abbrev pub DrawsOn : Bool → (port count : ℕ) → Lent → Lent → Lent → ℕ → Type 0
+DrawsOn w port count tape log stand x =
+    Draws w port count (now (tape .entry)) (now (log .entry)) (now (stand .entry)) x (now (log .exit)) (now (stand .exit))
+
+-- the registers and RAM afterwards are named: not all of these write them
+abbrev pub ReachesOn : Act Unit → Lent → Lent → Lent → Lent → Lent → Lent → (count x : ℕ) → (f′ ram′ : List ℕ) → Type 0
+ReachesOn t file ram rom tape log stand count x f′ ram′ =
+    Reaches t (now (file .entry)) (now (ram .entry)) (now (rom .entry)) (now (tape .entry)) (now (log .entry)) (now (stand .entry))
+    count x f′ ram′ (now (log .exit)) (now (stand .exit))

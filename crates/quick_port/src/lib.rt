@@ -1,5 +1,5 @@
 // Port accesses, IN and OUT, with the places lent as numbers: nothing of an answer goes through memory.
-use log_record::Put;
+use mach_ports::Put;
 use mach_registers::DW;
 ghost use mathlib.Core.Path.{_≡_};
 ghost use Prim.Native.Nat.{ℕ, _+_, _≤_};
@@ -13,7 +13,7 @@ ghost use Rattle.sheet.specs.Contract.{OnFile};
 ghost use Rattle.quick_place.specs.Packed.{rmOf, wordOf, dispOf};
 ghost use Rattle.quick_pack.specs.Readings.{portAt};
 ghost use Rattle.quick_stand.specs.Stand.{Lent};
-ghost use Rattle.quick_port.specs.Reached.{Lodges, Sends, Draws, Reaches};
+ghost use Rattle.quick_port.specs.Reached.{LodgesOn, Sends, DrawsOn, ReachesOn};
 
 // Adds a record with the count; the tape's place is then `next`. 0, or 6 where the log has no room.
 fn add_record(
@@ -25,10 +25,10 @@ fn add_record(
     v: u16,
 ) -> u64
     requires { ⌜ Lent (now stand) ⌝ }
-    ensures { λ r. ⌜ Lodges (recordBytes rule count key v) next count (now (log .entry)) (now (stand .entry)) r (now (log .exit)) (now (stand .exit)) ⌝ }
+    ensures { λ r. ⌜ LodgesOn (recordBytes rule count key v) next count log stand r ⌝ }
 {
     let at = stand[1];
-    match log_record::log_record(log, at, count, key, v) {
+    match mach_ports::put_at(log, at, count, key, v) {
         Put::Done(n) => {
             stand[0] = next;
             stand[1] = at + n;
@@ -55,7 +55,7 @@ pub fn give(
     requires { ⌜ Lent (now stand) ⌝ }
     ensures { λ r. ⌜ Sends word port v count (now (log .entry)) (now (stand .entry)) r (now (log .exit)) (now (stand .exit)) ⌝ }
 {
-    let key = log_record::key_of(true, word, port);
+    let key = mach_ports::key_of(true, word, port);
     let next = stand[0];
     add_record(log, stand, count, next, key, v)
 }
@@ -82,11 +82,11 @@ fn take_present(
     port: u16,
 ) -> u64
     requires { ⌜ Lent (now stand) × (getD (now stand) 0 0 + bytesOf word ≤ length (now tape)) ⌝ }
-    ensures { λ x. ⌜ Draws word port count (now (tape .entry)) (now (log .entry)) (now (stand .entry)) x (now (log .exit)) (now (stand .exit)) ⌝ }
+    ensures { λ x. ⌜ DrawsOn word port count tape log stand x ⌝ }
 {
     let at = stand[0];
     let v = tape_value(word, tape, at);
-    let key = log_record::key_of(false, word, port);
+    let key = mach_ports::key_of(false, word, port);
     let n = add_record(
         log,
         stand,
@@ -111,7 +111,7 @@ pub fn take(
     port: u16,
 ) -> u64
     requires { ⌜ Lent (now stand) ⌝ }
-    ensures { λ x. ⌜ Draws word port count (now (tape .entry)) (now (log .entry)) (now (stand .entry)) x (now (log .exit)) (now (stand .exit)) ⌝ }
+    ensures { λ x. ⌜ DrawsOn word port count tape log stand x ⌝ }
 {
     let at = stand[0];
     let n = calc_word::bytes(word) as usize;
@@ -146,7 +146,8 @@ pub fn input(
     r: u64,
 ) -> u64
     requires { ⌜ Lent (now stand) ⌝ }
-    ensures { λ x. ⌜ Reaches (tree.ports (io.In (wordOf r) (portAt (rmOf r) (dispOf r)))) (now (file .entry)) (now (ram .entry)) (now (rom .entry)) (now (tape .entry)) (now (log .entry)) (now (stand .entry)) count x (now (file .exit)) (now (ram .entry)) (now (log .exit)) (now (stand .exit)) ⌝ }
+    ensures { λ x. ⌜ ReachesOn (tree.ports (io.In (wordOf r) (portAt (rmOf r) (dispOf r))))
+        file ram rom tape log stand count x (now (file .exit)) (now (ram .entry)) ⌝ }
 {
     let word = quick_do::word_of(r);
     let port = port_of(file, r);
@@ -170,7 +171,8 @@ pub fn output(
     r: u64,
 ) -> u64
     requires { ⌜ Lent (now stand) ⌝ }
-    ensures { λ x. ⌜ Reaches (tree.ports (io.Out (wordOf r) (portAt (rmOf r) (dispOf r)))) (now (file .entry)) (now (ram .entry)) (now (rom .entry)) (now (tape .entry)) (now (log .entry)) (now (stand .entry)) count x (now (file .entry)) (now (ram .entry)) (now (log .exit)) (now (stand .exit)) ⌝ }
+    ensures { λ x. ⌜ ReachesOn (tree.ports (io.Out (wordOf r) (portAt (rmOf r) (dispOf r))))
+        file ram rom tape log stand count x (now (file .entry)) (now (ram .entry)) ⌝ }
 {
     let word = quick_do::word_of(r);
     let port = port_of(file, r);

@@ -4,7 +4,7 @@ use sheet::State;
 ghost use mathlib.Core.Path.{_≡_};
 ghost use Rattle.sheet.specs.World.{world, stateOf};
 ghost use Rattle.step_calls.specs.Calls.{checkNumber};
-ghost use Rattle.engine.specs.Runs.{Runs};
+ghost use Rattle.engine.specs.Lent.{RunsOn};
 ghost use Rattle.quick_reading.specs.Readings.{Remembers};
 ghost use Rattle.quick_stand.specs.Stand.{progressAt, marksAt, Lent};
 
@@ -30,7 +30,7 @@ fn state_of(file: [u16; 14], stand: &[usize; 4]) -> State
 // Steps of a machine that has passed the checks 1 and 2, until one refuses or the budget is spent.
 fn go_on(s: State, ram: &mut [u8], rom: &[u8], tape: &[u8], log: &mut [u8], budget: u16) -> Ran
     requires { ⌜ checkNumber (world s (now ram) (now rom) (now tape) (now log)) ≡ 0 ⌝ }
-    ensures { λ r. ⌜ Runs budget s (now (ram .entry)) (now (rom .entry)) (now (tape .entry)) (now (log .entry)) (r .number) (r .state) (now (ram .exit)) (now (log .exit)) (r .steps) (r .bus) ⌝ }
+    ensures { λ r. ⌜ RunsOn budget s ram rom tape log (r .number) (r .state) (r .steps) (r .bus) ⌝ }
 {
     let mut memo = no_readings();
     let mut file = s.file;
@@ -66,7 +66,7 @@ fn go_on(s: State, ram: &mut [u8], rom: &[u8], tape: &[u8], log: &mut [u8], budg
 
 // What `engine::run` comes to, for every budget and every program.
 pub fn run(s: State, ram: &mut [u8], rom: &[u8], tape: &[u8], log: &mut [u8], budget: u16) -> Ran
-    ensures { λ r. ⌜ Runs budget s (now (ram .entry)) (now (rom .entry)) (now (tape .entry)) (now (log .entry)) (r .number) (r .state) (now (ram .exit)) (now (log .exit)) (r .steps) (r .bus) ⌝ }
+    ensures { λ r. ⌜ RunsOn budget s ram rom tape log (r .number) (r .state) (r .steps) (r .bus) ⌝ }
 {
     let number = step_calls::check(s, ram, rom, tape, log);
     if number != 0 {

@@ -16,7 +16,7 @@ pub progress-is : (p : List ℕ) (q : Progress) → q ≡ progressOf (getD p 0 0
 unfolding progressAt
 progress-is p q e = e
 
-pub marks-are : (p : List ℕ) (m : Marks) → m ≡ marksOf (eqb (getD p 3 0 % 2) 1) (eqb (getD p 3 0 / 2 % 2) 1) → m ≡ marksAt p
+pub marks-are : (p : List ℕ) (m : Marks) → m ≡ marksOf (eqb (getD p 3 0 / 2 % 2) 1) (eqb (getD p 3 0 % 2) 1) (eqb (getD p 3 0 / 4 % 2) 1) → m ≡ marksAt p
 unfolding marksAt
 marks-are p m e = e
 
@@ -29,25 +29,33 @@ in-order (w ∷ x ∷ y ∷ []) a b c d h = absurd (omega arith)
 in-order (w ∷ x ∷ y ∷ z ∷ []) a b c d h = refl
 in-order (w ∷ x ∷ y ∷ z ∷ u ∷ p) a b c d h = absurd (omega arith)
 
-bits : (h l : Bool) → marksOf (odd (pick h 1 0 + 2 * pick l 1 0)) (odd ((pick h 1 0 + 2 * pick l 1 0) / 2)) ≡ marksOf h l
-bits true true = refl
-bits true false = refl
-bits false true = refl
-bits false false = refl
+-- the three marks as one number
+abbrev packed : (h l w : Bool) → ℕ
+packed h l w = pick l 1 0 + 2 * pick h 1 0 + 4 * pick w 1 0
 
-four-hold : (m : Marks) (q : Progress) → q .count ≤ 4294967295 → Holds (q .tape ∷ q .log ∷ q .count ∷ (pick (m .halted) 1 0 + 2 * pick (m .loaded) 1 0) ∷ []) m q
+bits : (h l w : Bool) → marksOf (odd (packed h l w / 2)) (odd (packed h l w)) (odd (packed h l w / 4)) ≡ marksOf h l w
+bits true true true = refl
+bits true true false = refl
+bits true false true = refl
+bits true false false = refl
+bits false true true = refl
+bits false true false = refl
+bits false false true = refl
+bits false false false = refl
+
+four-hold : (m : Marks) (q : Progress) → q .count ≤ 4294967295 → Holds (q .tape ∷ q .log ∷ q .count ∷ packed (m .halted) (m .loaded) (m .writable) ∷ []) m q
 unfolding progressAt marksAt
-four-hold m q h = record { marks = bits (m .halted) (m .loaded); progress = refl; lent = record { long = refl; small = h } }
+four-hold m q h = record { marks = bits (m .halted) (m .loaded) (m .writable); progress = refl; lent = record { long = refl; small = h } }
 
-pub keeps : (p p′ : List ℕ) (m : Marks) (q : Progress) (h l : ℕ) → Lent p → (h ≡ pick (m .halted) 1 0) × (h ≤ 1) → (l ≡ pick (m .loaded) 1 0) × (l ≤ 1) → q .count ≤ 4294967295
-    → p′ ≡ set (set (set (set p 0 (q .tape)) 1 (q .log)) 2 (q .count)) 3 (h + 2 * l) → Holds p′ m q
-keeps p p′ m q h l x (y, y′) (z, z′) k e = rw (e, in-order p (q .tape) (q .log) (q .count) (h + 2 * l) (x .long), y, z) (four-hold m q k)
+pub keeps : (p p′ : List ℕ) (m : Marks) (q : Progress) (h l w : ℕ) → Lent p → (h ≡ pick (m .halted) 1 0) × (h ≤ 1) → (l ≡ pick (m .loaded) 1 0) × (l ≤ 1) → (w ≡ pick (m .writable) 1 0) × (w ≤ 1) → q .count ≤ 4294967295
+    → p′ ≡ set (set (set (set p 0 (q .tape)) 1 (q .log)) 2 (q .count)) 3 (l + 2 * h + 4 * w) → Holds p′ m q
+keeps p p′ m q h l w x (y, y′) (z, z′) (u, u′) k e = rw (e, in-order p (q .tape) (q .log) (q .count) (l + 2 * h + 4 * w) (x .long), y, z, u) (four-hold m q k)
 
 pub lent-zeros : (p : List ℕ) → p ≡ replicate 4 0 → Lent p
 lent-zeros p e = rw e (record { long = refl; small = lit≤ tt })
 
 -- a count put down, and the marks cleared
-pub counted : (p p′ : List ℕ) (c : ℕ) → Lent p → c ≤ 4294967295 → p′ ≡ set (set p 2 c) 3 0 → Holds p′ (marksOf false false) (progressOf (getD p 0 0) (getD p 1 0) c)
+pub counted : (p p′ : List ℕ) (c : ℕ) → Lent p → c ≤ 4294967295 → p′ ≡ set (set p 2 c) 3 0 → Holds p′ (marksOf false false false) (progressOf (getD p 0 0) (getD p 1 0) c)
 unfolding progressAt marksAt
 counted [] p′ c h k q = absurd (let l = h .long in omega arith)
 counted (w ∷ []) p′ c h k q = absurd (let l = h .long in omega arith)

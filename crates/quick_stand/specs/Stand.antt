@@ -11,9 +11,9 @@ use Rattle.sheet.specs.World.{marksOf, progressOf}
 unfoldable pub progressAt : List ℕ → Progress
 progressAt p = progressOf (getD p 0 0) (getD p 1 0) (getD p 2 0)
 
--- halted is bit 0, loaded is bit 1
+-- loaded is bit 0, halted is bit 1, writable is bit 2: what takes the general path is above 1
 unfoldable pub marksAt : List ℕ → Marks
-marksAt p = marksOf (odd (getD p 3 0)) (odd (getD p 3 0 / 2))
+marksAt p = marksOf (odd (getD p 3 0 / 2)) (odd (getD p 3 0)) (odd (getD p 3 0 / 4))
 
 -- four of them, and a count that is a u32
 pub record Lent (p : List ℕ) : Type 0 where

@@ -21,8 +21,9 @@ pub fn marks(stand: &[usize; 4]) -> Marks
     ensures { λ r. ⌜ r ≡ marksAt (now (stand .entry)) ⌝ }
 {
     Marks {
-        halted: stand[3] % 2 == 1,
-        loaded: stand[3] / 2 % 2 == 1,
+        halted: stand[3] / 2 % 2 == 1,
+        loaded: stand[3] % 2 == 1,
+        writable: stand[3] / 4 % 2 == 1,
     }
 }
 
@@ -38,10 +39,11 @@ pub fn keep(stand: &mut [usize; 4], m: Marks, q: Progress)
 {
     let halted = digit(m.halted);
     let loaded = digit(m.loaded);
+    let writable = digit(m.writable);
     stand[0] = q.tape;
     stand[1] = q.log;
     stand[2] = q.count as usize;
-    stand[3] = halted + 2 * loaded;
+    stand[3] = loaded + 2 * halted + 4 * writable;
 }
 
 fn nowhere() -> [usize; 4]

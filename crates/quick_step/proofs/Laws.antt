@@ -1,7 +1,7 @@
 -- What each return of the code comes to, over plain values.
 use Prim.Native.Nat.{ℕ, zero, suc, _+_, _-_, _*_, _/_, _%_, _≤_, _<_}
 use mathlib.Core.Path.{_≡_, refl, sym, ap, _∙_}
-use mathlib.Core.Bool.{Bool, true, false, not, _&&_}
+use mathlib.Core.Bool.{Bool, true, false, not, _&&_, _||_, true≢false}
 use mathlib.Core.List.{List, [], _∷_}
 use native.Mathlib.Omega.{arith}
 use lib.Dec.{eqb, leb, lit≤}
@@ -15,7 +15,7 @@ use Rattle.sheet.specs.declared.Marks.{Marks}
 use Rattle.sheet.specs.declared.Progress.{Progress}
 use Rattle.sheet.specs.declared.State.{State}
 use Rattle.sheet.specs.Width.{pick, odd, add16}
-use Rattle.sheet.specs.Psw.{BRK, flagOf}
+use Rattle.sheet.specs.Psw.{BRK, flagOf, nativeOf}
 use Rattle.sheet.specs.Registers.{PS, PC, PSW}
 use Rattle.sheet.specs.Log.{rule, risen}
 use Rattle.sheet.specs.World.{stateOf, marksOf, markLoaded}
@@ -57,21 +57,28 @@ use Rattle.quick_step.specs.Turns.{Turns}
 -- ---- the reading
 
 pub not-ready : (f p ram rom : List ℕ) (r : ℕ) → r ≡ 0 → Ready f p ram rom r
-not-ready f p ram rom r e = record { awake = λ z. absurd (z e); untraced = λ z. absurd (z e); reads = λ z. absurd (z e) }
+not-ready f p ram rom r e = record { awake = λ z. absurd (z e); closed = λ z. absurd (z e); native = λ z. absurd (z e); untraced = λ z. absurd (z e); reads = λ z. absurd (z e) }
 
-stirs : (p : List ℕ) → (getD p 3 0 % 2 ≡ 1 → ⊥) → marksAt p .halted ≡ false
+-- neither halted nor permitted
+stirs : (p : List ℕ) → getD p 3 0 ≤ 1 → (marksAt p .halted ≡ false) × (marksAt p .writable ≡ false)
 unfolding marksAt
-stirs p h = ne-eqb (getD p 3 0 % 2) 1 h
+stirs p h = (ne-eqb (getD p 3 0 / 2 % 2) 1 (λ e. omega arith), ne-eqb (getD p 3 0 / 4 % 2) 1 (λ e. omega arith))
 
-pub ready : (f p ram rom : List ℕ) (t : Bool) (ps pc w r : ℕ) → (getD p 3 0 % 2 ≡ 1 → ⊥) → t ≡ flagOf (getD f PSW 0) BRK → t ≡ false → ps ≡ getD f PS 0 → pc ≡ getD f PC 0
+neither : (a b : Bool) → (a || not b) ≡ false → (a ≡ false) × (b ≡ true)
+neither false true e = (refl, refl)
+neither false false e = absurd (true≢false e)
+neither true b e = absurd (true≢false e)
+
+pub ready : (f p ram rom : List ℕ) (t n : Bool) (ps pc w r : ℕ) → getD p 3 0 ≤ 1 → t ≡ flagOf (getD f PSW 0) BRK → n ≡ nativeOf (getD f PSW 0) → (t || not n) ≡ false → ps ≡ getD f PS 0 → pc ≡ getD f PC 0
     → Spells (codeByte ram rom ps pc) 0 8 w → Means w r → Ready f p ram rom r
-ready f p ram rom t ps pc w r h e k x y s (general z) = not-ready f p ram rom r z
-ready f p ram rom t ps pc w r h e k x y s (quick l d) =
-    record { awake = λ z. stirs p h; untraced = λ z. sym e ∙ k; reads = λ z. code-decodes w _ (instrOf r) (sizeOf r) (rw (x, y) at s) l d }
+ready f p ram rom t n ps pc w r h e m k x y s (general z) = not-ready f p ram rom r z
+ready f p ram rom t n ps pc w r h e m k x y s (quick l d) =
+    let (a, b) = neither t n k in
+    record { awake = λ z. stirs p h .0; closed = λ z. stirs p h .1; native = λ z. sym m ∙ b; untraced = λ z. sym e ∙ a; reads = λ z. code-decodes w _ (instrOf r) (sizeOf r) (rw (x, y) at s) l d }
 
 -- ---- the count and the marks
 
-pub begins : (p p′ : List ℕ) (c : ℕ) → Lent p → c ≡ risen rule (getD p 2 0) → c ≤ 4294967295 → p′ ≡ set (set p 2 c) 3 0 → Holds p′ (marksOf false false) (begunAt (progressAt p))
+pub begins : (p p′ : List ℕ) (c : ℕ) → Lent p → c ≡ risen rule (getD p 2 0) → c ≤ 4294967295 → p′ ≡ set (set p 2 c) 3 0 → Holds p′ (marksOf false false false) (begunAt (progressAt p))
 unfolding progressAt
 begins p p′ c h e k q = rw (← e) (counted p p′ c h k q)
 
@@ -117,33 +124,33 @@ loads-none : (r : ℕ) → loadsSegment (instrOf r) ≡ false
 unfolding instrOf
 loads-none r = plain-at (in-group r (kindOf r / 16)) (kindOf r % 16)
 
-module _ (i : Instr) (size : ℕ) (f ram rom tape log : List ℕ) (m : Marks) (q : Progress) (awake : m .halted ≡ false) (plain : loadsSegment i ≡ false) (untraced : flagOf (getD f PSW 0) BRK ≡ false)
-    (d : Decodes instruction (codeByte ram rom (getD f PS 0) (getD f PC 0)) 0 (Known i size)) where
+module _ (i : Instr) (size : ℕ) (f ram rom tape log : List ℕ) (m : Marks) (q : Progress) (awake : m .halted ≡ false) (closed : m .writable ≡ false) (plain : loadsSegment i ≡ false) (untraced : flagOf (getD f PSW 0) BRK ≡ false)
+    (native : nativeOf (getD f PSW 0) ≡ true) (d : Decodes instruction (codeByte ram rom (getD f PS 0) (getD f PC 0)) 0 (Known i size)) where
   -- done
   pub performed : (g ram′ log′ : List ℕ) (q′ : Progress) (n : Bus) (number : ℕ) → number ≡ 0
-      → Performs (execute i size) f ram rom tape log (marksOf false false) (begunAt q) number false (marksOf false false) g ram′ log′ q′ n
-      → Advances (stateOf f m q) ram rom tape log true 0 (stateOf g (marksOf false false) q′) ram′ log′ n
+      → Performs (execute i size) f ram rom tape log (marksOf false false false) (begunAt q) number false (marksOf false false false) g ram′ log′ q′ n
+      → Advances (stateOf f m q) ram rom tape log true 0 (stateOf g (marksOf false false false) q′) ram′ log′ n
   performed g ram′ log′ q′ n number z p =
-      advances-known f m q ram rom tape log (getD f PS 0) (getD f PC 0) refl refl awake (Known i size) d i size (record { done = true; number = 0; marks = marksOf false false; progress = q′; bus = n }) g ram′ log′ refl
+      advances-known f m q ram rom tape log awake (Known i size) (record { is = rw native d }) i size (record { done = true; number = 0; marks = marksOf false false false; progress = q′; bus = n }) g ram′ log′ refl
       (record {
         told = refl;
         does =
-            proceeds-done i size f g ram ram′ rom tape log log′ m (marksOf false false) (marksOf false false) q (begunAt q) q′ number false false n (rw untraced) (rw (awake, plain)) refl p
-            0 (marksOf false false) q′ g ram′ n
-            (record { zero = refl; places = refl; last = nothing; sum = record { is = sym (no-last n); cycles = omega arith; dropped = omega arith }; finish = finishes-untraced false (marksOf false false) g ram′ rom nothing refl (record { is = refl }) })
+            proceeds-done i size f g ram ram′ rom tape log log′ m (marksOf false false false) (marksOf false false false) q (begunAt q) q′ number false false n (rw untraced) (rw (awake, plain, closed)) refl p
+            0 (marksOf false false false) q′ g ram′ n
+            (record { zero = refl; places = refl; last = nothing; sum = record { is = sym (no-last n); cycles = omega arith; dropped = omega arith }; finish = finishes-untraced false (marksOf false false false) g ram′ rom nothing refl (record { is = refl }) })
             z;
       })
 
   -- refused
   pub refused : (g ram′ log′ : List ℕ) (q′ : Progress) (n : Bus) (number : ℕ) → (number ≡ 0 → ⊥)
-      → Performs (execute i size) f ram rom tape log (marksOf false false) (begunAt q) number false (marksOf false false) g ram′ log′ q′ n
+      → Performs (execute i size) f ram rom tape log (marksOf false false false) (begunAt q) number false (marksOf false false false) g ram′ log′ q′ n
       → Advances (stateOf f m q) ram rom tape log false number (stateOf g m q) ram′ log′ nothing
   refused g ram′ log′ q′ n number z p =
-      advances-known f m q ram rom tape log (getD f PS 0) (getD f PC 0) refl refl awake (Known i size) d i size (record { done = false; number = number; marks = m; progress = q; bus = nothing }) g ram′ log′ refl
+      advances-known f m q ram rom tape log awake (Known i size) (record { is = rw native d }) i size (record { done = false; number = number; marks = m; progress = q; bus = nothing }) g ram′ log′ refl
       (record {
         told = sym (ne-eqb number 0 z);
         does =
-            proceeds-stop i size f g ram ram′ rom tape log log′ m (marksOf false false) (marksOf false false) q (begunAt q) q′ number false false n (rw untraced) (rw (awake, plain)) refl p
+            proceeds-stop i size f g ram ram′ rom tape log log′ m (marksOf false false false) (marksOf false false false) q (begunAt q) q′ number false false n (rw untraced) (rw (awake, plain, closed)) refl p
             nothing z (record { is = refl });
       })
 
@@ -154,11 +161,11 @@ turned : (f g p p′ ram ram′ rom tape log log′ : List ℕ) (m : Marks) (q :
 turned f g p p′ ram ram′ rom tape log log′ m q x n a h e = rw e (record { lent = h .lent; does = rw (above n, number-done n, cost-done n, h .marks, h .progress) a })
 
 pub turns-quick : (f g p p′ ram ram′ rom tape log : List ℕ) (r x n : ℕ) → Ready f p ram rom r → (r ≡ 0 → ⊥) → OnMemory Bool (execute (instrOf r) (sizeOf r)) f ram rom false g ram′ (busAt n) 1020
-    → Holds p′ (marksOf false false) (begunAt (progressAt p)) → x ≡ 256 + n → Turns f p ram rom tape log x g p′ ram′ log
+    → Holds p′ (marksOf false false false) (begunAt (progressAt p)) → x ≡ 256 + n → Turns f p ram rom tape log x g p′ ram′ log
 turns-quick f g p p′ ram ram′ rom tape log r x n y z o h e =
-    turned f g p p′ ram ram′ rom tape log log (marksOf false false) (begunAt (progressAt p)) x n
-    (performed (instrOf r) (sizeOf r) f ram rom tape log (marksAt p) (progressAt p) (y .awake z) (loads-none r) (y .untraced z) (y .reads z) g ram′ log (begunAt (progressAt p)) (busAt n) 0 refl
-    (record { most = within-memory o; done = λ u. o .at (stateOf f (marksOf false false) (begunAt (progressAt p))) tape log; stop = λ u. absurd (u refl); same = λ u. absurd (u refl) })) h e
+    turned f g p p′ ram ram′ rom tape log log (marksOf false false false) (begunAt (progressAt p)) x n
+    (performed (instrOf r) (sizeOf r) f ram rom tape log (marksAt p) (progressAt p) (y .awake z) (y .closed z) (loads-none r) (y .untraced z) (y .native z) (y .reads z) g ram′ log (begunAt (progressAt p)) (busAt n) 0 refl
+    (record { most = within-memory o; done = λ u. o .at (stateOf f (marksOf false false false) (begunAt (progressAt p))) tape log; stop = λ u. absurd (u refl); same = λ u. absurd (u refl) })) h e
 
 pub quick-fits : (i : Instr) (size : ℕ) (f g ram ram′ rom : List ℕ) (n : ℕ) → OnMemory Bool (execute i size) f ram rom false g ram′ (busAt n) 1020 → 256 + n < 18446744073709551616
 quick-fits i size f g ram ram′ rom n p = fits-above n (within-memory p) (lit≤ tt)
@@ -187,9 +194,9 @@ general-fits b n d k = fits-above {t = 1028} n (rw (k .is) d) (lit≤ tt)
 
 module _ (f g p p′ ram ram′ rom tape log log′ : List ℕ) (r x count start next : ℕ) (y : Ready f p ram rom r) (z : r ≡ 0 → ⊥) (k : atPort r ≡ true) (c : count ≡ risen rule (getD p 2 0)) (a : start ≡ getD f PC 0)
     (d : next ≡ add16 start (sizeOf r)) (o : Reaches (portTree r start) (set f PC next) ram rom tape log p count x g ram′ log′ p′) where
-  operates : Performs (operation (instrOf r) start) (set f PC next) ram rom tape log (marksOf false false) (begunAt (progressAt p)) (numberOf x) false (marksOf false false) g ram′ log′ (o .places) (costOf x)
+  operates : Performs (operation (instrOf r) start) (set f PC next) ram rom tape log (marksOf false false false) (begunAt (progressAt p)) (numberOf x) false (marksOf false false false) g ram′ log′ (o .places) (costOf x)
   unfolding progressAt
-  operates = rw (port-does r start k, ← c) (ported-is (portTree r start) (set f PC next) g ram ram′ rom tape log (marksOf false false) (countedAt p count) log′ (o .places) (numberOf x) (costOf x) 4 (lit≤ tt) (o .does))
+  operates = rw (port-does r start k, ← c) (ported-is (portTree r start) (set f PC next) g ram ram′ rom tape log (marksOf false false false) (countedAt p count) log′ (o .places) (numberOf x) (costOf x) 4 (lit≤ tt) (o .does))
 
   -- a refusal, with PC put back
   pub turns-refused : (h : List ℕ) → x < 256 → h ≡ set g PC start → Lent p → Turns f p ram rom tape log x h p′ ram′ log′
@@ -202,8 +209,8 @@ module _ (f g p p′ ram ram′ rom tape log log′ : List ℕ) (r x count start
         lent = w;
         does =
             rw (lt-leb 256 x l, cost-stop x (omega arith))
-            (refused (instrOf r) (sizeOf r) f ram rom tape log (marksAt p) (progressAt p) (y .awake z) (loads-none r) (y .untraced z) (y .reads z) (set g PC start) ram′ log′ (o .places) (costOf x) (numberOf x) n
-            (launches-stop (instrOf r) (sizeOf r) start next f g ram ram′ rom tape log log′ (marksOf false false) (marksOf false false) (begunAt (progressAt p)) (o .places) (numberOf x) false (costOf x) a d operates n));
+            (refused (instrOf r) (sizeOf r) f ram rom tape log (marksAt p) (progressAt p) (y .awake z) (y .closed z) (loads-none r) (y .untraced z) (y .native z) (y .reads z) (set g PC start) ram′ log′ (o .places) (costOf x) (numberOf x) n
+            (launches-stop (instrOf r) (sizeOf r) start next f g ram ram′ rom tape log log′ (marksOf false false false) (marksOf false false false) (begunAt (progressAt p)) (o .places) (numberOf x) false (costOf x) a d operates n));
       })
 
   pub turns-reached : 256 ≤ x → Turns f p ram rom tape log x g p′ ram′ log′
@@ -214,8 +221,8 @@ module _ (f g p p′ ram ram′ rom tape log log′ : List ℕ) (r x count start
         lent = h .lent;
         does =
             rw (le-leb 256 x l, n, h .marks, h .progress)
-            (performed (instrOf r) (sizeOf r) f ram rom tape log (marksAt p) (progressAt p) (y .awake z) (loads-none r) (y .untraced z) (y .reads z) g ram′ log′ (o .places) (costOf x) (numberOf x) n
-            (launches-done (instrOf r) (sizeOf r) start next f g ram ram′ rom tape log log′ (marksOf false false) (marksOf false false) (begunAt (progressAt p)) (o .places) (numberOf x) false (costOf x) a d operates n));
+            (performed (instrOf r) (sizeOf r) f ram rom tape log (marksAt p) (progressAt p) (y .awake z) (y .closed z) (loads-none r) (y .untraced z) (y .native z) (y .reads z) g ram′ log′ (o .places) (costOf x) (numberOf x) n
+            (launches-done (instrOf r) (sizeOf r) start next f g ram ram′ rom tape log log′ (marksOf false false false) (marksOf false false false) (begunAt (progressAt p)) (o .places) (numberOf x) false (costOf x) a d operates n));
       }
 
 -- what a test of a reading says

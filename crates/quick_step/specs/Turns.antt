@@ -6,7 +6,14 @@ use Rattle.sheet.specs.World.{stateOf}
 use Rattle.engine.specs.Steps.{Advances}
 use Rattle.quick_stand.specs.Stand.{progressAt, marksAt, Lent}
 use Rattle.quick_port.specs.Reached.{numberOf, costOf}
+use denote.Ref.{now}
+use Rattle.mach_tally.specs.Lent as tally
 
 pub record Turns (f p ram rom tape log : List ℕ) (x : ℕ) (f′ p′ ram′ log′ : List ℕ) : Type 0 where
   pub lent : Lent p′
   pub does : Advances (stateOf f (marksAt p) (progressAt p)) ram rom tape log (leb 256 x) (numberOf x) (stateOf f′ (marksAt p′) (progressAt p′)) ram′ log′ (costOf x)
+
+abbrev pub TurnsOn : tally.Lent → tally.Lent → tally.Lent → tally.Lent → tally.Lent → tally.Lent → ℕ → Type 0
+TurnsOn file stand ram rom tape log x =
+    Turns (now (file .entry)) (now (stand .entry)) (now (ram .entry)) (now (rom .entry)) (now (tape .entry)) (now (log .entry))
+    x (now (file .exit)) (now (stand .exit)) (now (ram .exit)) (now (log .exit))

@@ -9,19 +9,20 @@ ghost use Rattle.step_one.specs.Proceeds.{begunAt};
 ghost use Rattle.quick_pack.specs.Readings.{atPort};
 ghost use Rattle.quick_reading.specs.Readings.{Remembers};
 ghost use Rattle.quick_stand.specs.Stand.{progressAt, Lent, Holds};
-ghost use Rattle.quick_step.specs.Ready.{Ready};
-ghost use Rattle.quick_step.specs.Turns.{Turns};
+ghost use Rattle.quick_step.specs.Ready.{Ready, ReadyOn};
+ghost use Rattle.quick_step.specs.Turns.{TurnsOn};
 
-// The reading of the instruction at PS:PC, or 0: a machine that is halted or traced takes the general path.
+// The reading of the instruction at PS:PC, or 0: a machine that is halted, traced or maybe in the 8080 mode takes the general path.
 fn next(file: &[u16; 14], stand: &[usize; 4], memo: &mut [u64; 2048], ram: &[u8], rom: &[u8]) -> u64
     requires { ⌜ Remembers (now memo) ⌝ }
-    ensures { λ r. ⌜ Ready (now (file .entry)) (now (stand .entry)) (now (ram .entry)) (now (rom .entry)) r × Remembers (now (memo .exit)) ⌝ }
+    ensures { λ r. ⌜ ReadyOn file stand ram rom r × Remembers (now (memo .exit)) ⌝ }
 {
-    if stand[3] % 2 == 1 {
+    if stand[3] > 1 {
         return 0;
     }
     let traced = calc_flags::brk(file[PSW]);
-    if traced {
+    let native = calc_flags::native(file[PSW]);
+    if traced | !native {
         return 0;
     }
     let ps = file[PS];
@@ -33,7 +34,7 @@ fn next(file: &[u16; 14], stand: &[usize; 4], memo: &mut [u64; 2048], ram: &[u8]
 // The count rises; no reading loads a segment register or halts.
 fn begin(stand: &mut [usize; 4])
     requires { ⌜ Lent (now stand) ⌝ }
-    ensures { λ _. ⌜ Holds (now (stand .exit)) (marksOf false false) (begunAt (progressAt (now (stand .entry)))) ⌝ }
+    ensures { λ _. ⌜ Holds (now (stand .exit)) (marksOf false false false) (begunAt (progressAt (now (stand .entry)))) ⌝ }
 {
     let count = step_one::count_on(stand[2] as u32);
     stand[2] = count as usize;
@@ -51,7 +52,7 @@ fn reach(
     r: u64,
 ) -> u64
     requires { ⌜ Lent (now stand) × Ready (now file) (now stand) (now ram) (now rom) r × (r ≡ 0 → ⊥) × (atPort r ≡ true) ⌝ }
-    ensures { λ x. ⌜ Turns (now (file .entry)) (now (stand .entry)) (now (ram .entry)) (now (rom .entry)) (now (tape .entry)) (now (log .entry)) x (now (file .exit)) (now (stand .exit)) (now (ram .exit)) (now (log .exit)) ⌝ }
+    ensures { λ x. ⌜ TurnsOn file stand ram rom tape log x ⌝ }
 {
     let count = step_one::count_on(stand[2] as u32);
     let start = file[PC];
@@ -72,7 +73,7 @@ fn general(
     log: &mut [u8],
 ) -> u64
     requires { ⌜ Lent (now stand) ⌝ }
-    ensures { λ x. ⌜ Turns (now (file .entry)) (now (stand .entry)) (now (ram .entry)) (now (rom .entry)) (now (tape .entry)) (now (log .entry)) x (now (file .exit)) (now (stand .exit)) (now (ram .exit)) (now (log .exit)) ⌝ }
+    ensures { λ x. ⌜ TurnsOn file stand ram rom tape log x ⌝ }
 {
     let m = quick_stand::marks(stand);
     let q = quick_stand::progress(stand);
@@ -98,7 +99,7 @@ pub fn turn(
     log: &mut [u8],
 ) -> u64
     requires { ⌜ Lent (now stand) × Remembers (now memo) ⌝ }
-    ensures { λ x. ⌜ Turns (now (file .entry)) (now (stand .entry)) (now (ram .entry)) (now (rom .entry)) (now (tape .entry)) (now (log .entry)) x (now (file .exit)) (now (stand .exit)) (now (ram .exit)) (now (log .exit)) × Remembers (now (memo .exit)) ⌝ }
+    ensures { λ x. ⌜ TurnsOn file stand ram rom tape log x × Remembers (now (memo .exit)) ⌝ }
 {
     let r = next(file, stand, memo, ram, rom);
     if r != 0 {

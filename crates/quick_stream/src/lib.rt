@@ -11,7 +11,7 @@ ghost use Rattle.sheet.specs.Block as tree;
 ghost use Rattle.quick_place.specs.Packed.{opOf, segOf, wordOf};
 ghost use Rattle.quick_pack.specs.Readings.{atPort, streamAt};
 ghost use Rattle.quick_stand.specs.Stand.{Lent};
-ghost use Rattle.quick_port.specs.Reached.{Reaches};
+ghost use Rattle.quick_port.specs.Reached.{ReachesOn};
 ghost use Rattle.quick_stream.specs.Trees.{portTree};
 
 fn inm(
@@ -25,7 +25,8 @@ fn inm(
     r: u64,
 ) -> u64
     requires { ⌜ Lent (now stand) ⌝ }
-    ensures { λ x. ⌜ Reaches (tree.primitive primitives.Inm (wordOf r) (segOf r)) (now (file .entry)) (now (ram .entry)) (now (rom .entry)) (now (tape .entry)) (now (log .entry)) (now (stand .entry)) count x (now (file .exit)) (now (ram .exit)) (now (log .exit)) (now (stand .exit)) ⌝ }
+    ensures { λ x. ⌜ ReachesOn (tree.primitive primitives.Inm (wordOf r) (segOf r))
+        file ram rom tape log stand count x (now (file .exit)) (now (ram .exit)) ⌝ }
 {
     let word = quick_do::word_of(r);
     let port = file[DW];
@@ -50,7 +51,8 @@ fn outm(
     r: u64,
 ) -> u64
     requires { ⌜ Lent (now stand) ⌝ }
-    ensures { λ x. ⌜ Reaches (tree.primitive primitives.Outm (wordOf r) (segOf r)) (now (file .entry)) (now (ram .entry)) (now (rom .entry)) (now (tape .entry)) (now (log .entry)) (now (stand .entry)) count x (now (file .exit)) (now (ram .entry)) (now (log .exit)) (now (stand .exit)) ⌝ }
+    ensures { λ x. ⌜ ReachesOn (tree.primitive primitives.Outm (wordOf r) (segOf r))
+        file ram rom tape log stand count x (now (file .exit)) (now (ram .entry)) ⌝ }
 {
     let word = quick_do::word_of(r);
     let v = mach_element::source_element(word, file, ram, rom, (r / 16777216 % 4) as u8);
@@ -76,7 +78,8 @@ fn inm_element(
     start: u16,
 ) -> u64
     requires { ⌜ Lent (now stand) ⌝ }
-    ensures { λ x. ⌜ Reaches (tree.element primitives.Inm (wordOf r) (segOf r) repeats.WhileZ start) (now (file .entry)) (now (ram .entry)) (now (rom .entry)) (now (tape .entry)) (now (log .entry)) (now (stand .entry)) count x (now (file .exit)) (now (ram .exit)) (now (log .exit)) (now (stand .exit)) ⌝ }
+    ensures { λ x. ⌜ ReachesOn (tree.element primitives.Inm (wordOf r) (segOf r) repeats.WhileZ start)
+        file ram rom tape log stand count x (now (file .exit)) (now (ram .exit)) ⌝ }
 {
     let x = inm(file, ram, rom, tape, log, stand, count, r);
     if 256 <= x {
@@ -97,7 +100,8 @@ fn outm_element(
     start: u16,
 ) -> u64
     requires { ⌜ Lent (now stand) ⌝ }
-    ensures { λ x. ⌜ Reaches (tree.element primitives.Outm (wordOf r) (segOf r) repeats.WhileZ start) (now (file .entry)) (now (ram .entry)) (now (rom .entry)) (now (tape .entry)) (now (log .entry)) (now (stand .entry)) count x (now (file .exit)) (now (ram .entry)) (now (log .exit)) (now (stand .exit)) ⌝ }
+    ensures { λ x. ⌜ ReachesOn (tree.element primitives.Outm (wordOf r) (segOf r) repeats.WhileZ start)
+        file ram rom tape log stand count x (now (file .exit)) (now (ram .entry)) ⌝ }
 {
     let x = outm(file, ram, rom, tape, log, stand, count, r);
     if 256 <= x {
@@ -119,7 +123,8 @@ fn stream(
     start: u16,
 ) -> u64
     requires { ⌜ Lent (now stand) ⌝ }
-    ensures { λ x. ⌜ Reaches (tree.block (streamAt (opOf r)) (wordOf r) (segOf r) repeats.WhileZ start) (now (file .entry)) (now (ram .entry)) (now (rom .entry)) (now (tape .entry)) (now (log .entry)) (now (stand .entry)) count x (now (file .exit)) (now (ram .exit)) (now (log .exit)) (now (stand .exit)) ⌝ }
+    ensures { λ x. ⌜ ReachesOn (tree.block (streamAt (opOf r)) (wordOf r) (segOf r) repeats.WhileZ start)
+        file ram rom tape log stand count x (now (file .exit)) (now (ram .exit)) ⌝ }
 {
     if file[CW] == 0 {
         stand[2] = count as usize;
@@ -145,7 +150,7 @@ pub fn access(
     start: u16,
 ) -> u64
     requires { ⌜ Lent (now stand) × (atPort r ≡ true) ⌝ }
-    ensures { λ x. ⌜ Reaches (portTree r start) (now (file .entry)) (now (ram .entry)) (now (rom .entry)) (now (tape .entry)) (now (log .entry)) (now (stand .entry)) count x (now (file .exit)) (now (ram .exit)) (now (log .exit)) (now (stand .exit)) ⌝ }
+    ensures { λ x. ⌜ ReachesOn (portTree r start) file ram rom tape log stand count x (now (file .exit)) (now (ram .exit)) ⌝ }
 {
     match r % 256 {
         48 => quick_port::input(file, ram, rom, tape, log, stand, count, r),

@@ -25,7 +25,7 @@ use sheet::Places;
 use sheet::Shift;
 use sheet::Unary;
 ghost use mathlib.Core.Bool.{false};
-ghost use Rattle.base_line.specs.Adds.{Adds};
+ghost use Rattle.base_line.specs.Adds.{AddsTo};
 ghost use Rattle.rom_mnemonic.specs.Mnemonics as words;
 
 // The index registers of strings and blocks, and the segment of what is written.
@@ -36,7 +36,7 @@ const IY: u8 = 7;
 const DS1: u8 = 0;
 
 fn put_operation(line: &mut [u8; 80], at: usize, op: Operation) -> usize
-    ensures { λ r. ⌜ Adds (words.operationName op) (now (line .entry)) at r (now (line .exit)) ⌝ }
+    ensures { λ r. ⌜ AddsTo (words.operationName op) line at r ⌝ }
 {
     match op {
         Operation::Add => put_word(line, at, b"ADD"),
@@ -51,7 +51,7 @@ fn put_operation(line: &mut [u8; 80], at: usize, op: Operation) -> usize
 }
 
 fn put_unary(line: &mut [u8; 80], at: usize, op: Unary) -> usize
-    ensures { λ r. ⌜ Adds (words.unaryName op) (now (line .entry)) at r (now (line .exit)) ⌝ }
+    ensures { λ r. ⌜ AddsTo (words.unaryName op) line at r ⌝ }
 {
     match op {
         Unary::Inc => put_word(line, at, b"INC"),
@@ -62,7 +62,7 @@ fn put_unary(line: &mut [u8; 80], at: usize, op: Unary) -> usize
 }
 
 fn put_arithmetic(line: &mut [u8; 80], at: usize, i: Arithmetic) -> usize
-    ensures { λ r. ⌜ Adds (words.arithmeticText i) (now (line .entry)) at r (now (line .exit)) ⌝ }
+    ensures { λ r. ⌜ AddsTo (words.arithmeticText i) line at r ⌝ }
 {
     match i {
         Arithmetic::Two { op, word, to, from } => {
@@ -80,7 +80,7 @@ fn put_arithmetic(line: &mut [u8; 80], at: usize, i: Arithmetic) -> usize
 }
 
 fn put_convert(line: &mut [u8; 80], at: usize, i: Convert) -> usize
-    ensures { λ r. ⌜ Adds (words.convertText i) (now (line .entry)) at r (now (line .exit)) ⌝ }
+    ensures { λ r. ⌜ AddsTo (words.convertText i) line at r ⌝ }
 {
     match i {
         Convert::Adjba => put_word(line, at, b"ADJBA"),
@@ -95,7 +95,7 @@ fn put_convert(line: &mut [u8; 80], at: usize, i: Convert) -> usize
 }
 
 fn put_shift_name(line: &mut [u8; 80], at: usize, kind: Shift) -> usize
-    ensures { λ r. ⌜ Adds (words.shiftName kind) (now (line .entry)) at r (now (line .exit)) ⌝ }
+    ensures { λ r. ⌜ AddsTo (words.shiftName kind) line at r ⌝ }
 {
     match kind {
         Shift::Rol => put_word(line, at, b"ROL"),
@@ -116,7 +116,7 @@ fn put_shift(
     to: Place,
     places: Places,
 ) -> usize
-    ensures { λ r. ⌜ Adds (words.two (words.shiftName kind) (words.ofPlace word to) (words.ofPlaces places)) (now (line .entry)) at r (now (line .exit)) ⌝ }
+    ensures { λ r. ⌜ AddsTo (words.two (words.shiftName kind) (words.ofPlace word to) (words.ofPlaces places)) line at r ⌝ }
 {
     let x = put_shift_name(line, at, kind);
     let a = of_place(word, to);
@@ -125,7 +125,7 @@ fn put_shift(
 }
 
 fn put_bit_name(line: &mut [u8; 80], at: usize, op: Bit) -> usize
-    ensures { λ r. ⌜ Adds (words.bitName op) (now (line .entry)) at r (now (line .exit)) ⌝ }
+    ensures { λ r. ⌜ AddsTo (words.bitName op) line at r ⌝ }
 {
     match op {
         Bit::Test1 => put_word(line, at, b"TEST1"),
@@ -136,7 +136,7 @@ fn put_bit_name(line: &mut [u8; 80], at: usize, op: Bit) -> usize
 }
 
 fn put_bits(line: &mut [u8; 80], at: usize, op: Bit, word: bool, to: Place, number: Amount) -> usize
-    ensures { λ r. ⌜ Adds (words.two (words.bitName op) (words.ofPlace word to) (words.ofAmount number)) (now (line .entry)) at r (now (line .exit)) ⌝ }
+    ensures { λ r. ⌜ AddsTo (words.two (words.bitName op) (words.ofPlace word to) (words.ofAmount number)) line at r ⌝ }
 {
     let x = put_bit_name(line, at, op);
     let a = of_place(word, to);
@@ -146,7 +146,7 @@ fn put_bits(line: &mut [u8; 80], at: usize, op: Bit, word: bool, to: Place, numb
 
 // A string in DS1 by IY, and one in a segment by IX.
 fn put_strings(line: &mut [u8; 80], at: usize, name: &[u8], seg: u8) -> usize
-    ensures { λ r. ⌜ Adds (words.two (now (name .entry)) (words.inDs1 false) (words.from false seg)) (now (line .entry)) at r (now (line .exit)) ⌝ }
+    ensures { λ r. ⌜ AddsTo (words.two (now (name .entry)) (words.inDs1 false) (words.from false seg)) line at r ⌝ }
 {
     put_two(
         line,
@@ -166,7 +166,7 @@ fn put_strings(line: &mut [u8; 80], at: usize, name: &[u8], seg: u8) -> usize
 }
 
 fn put_decimal(line: &mut [u8; 80], at: usize, i: Decimal) -> usize
-    ensures { λ r. ⌜ Adds (words.decimalText i) (now (line .entry)) at r (now (line .exit)) ⌝ }
+    ensures { λ r. ⌜ AddsTo (words.decimalText i) line at r ⌝ }
 {
     match i {
         Decimal::Add4s { seg } => put_strings(line, at, b"ADD4S", seg),
@@ -178,7 +178,7 @@ fn put_decimal(line: &mut [u8; 80], at: usize, i: Decimal) -> usize
 }
 
 fn put_field(line: &mut [u8; 80], at: usize, i: Field) -> usize
-    ensures { λ r. ⌜ Adds (words.fieldText i) (now (line .entry)) at r (now (line .exit)) ⌝ }
+    ensures { λ r. ⌜ AddsTo (words.fieldText i) line at r ⌝ }
 {
     match i {
         Field::Ins { offset, length } => {
@@ -225,7 +225,7 @@ fn put_field(line: &mut [u8; 80], at: usize, i: Field) -> usize
 }
 
 pub fn put_compute(line: &mut [u8; 80], at: usize, i: Compute) -> usize
-    ensures { λ r. ⌜ Adds (words.computeText i) (now (line .entry)) at r (now (line .exit)) ⌝ }
+    ensures { λ r. ⌜ AddsTo (words.computeText i) line at r ⌝ }
 {
     match i {
         Compute::Calculates(i) => put_arithmetic(line, at, i),

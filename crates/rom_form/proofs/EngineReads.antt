@@ -1,6 +1,7 @@
--- Engine and listing read the same, wherever an instruction lies in the image whole.
+-- Engine and listing read the same in native mode, wherever an instruction lies in the image whole.
 use Prim.Native.Nat.{ℕ, _+_, _-_, _*_, _/_, _%_, _≤_, _<_, zero-le}
 use mathlib.Core.Path.{_≡_, refl, sym, ap, _∙_}
+use mathlib.Core.Bool.{true}
 use mathlib.Core.List.{List, []}
 use native.Mathlib.Nat.{mod-eq-of-lt, mod-lt, add-assoc}
 use native.Mathlib.Omega.{arith}
@@ -8,11 +9,14 @@ use lib.ListN.{length}
 use lib.Dec.{lit<}
 use borrow.Author.Tests.{le-ltb, le-leb}
 use Rattle.sheet.specs.declared.Instr.{Instr}
+use Rattle.sheet.specs.Width.{pick}
+use Rattle.sheet.specs.Psw.{nativeOf}
 use Rattle.sheet.specs.Memory.{physical, byteAt}
-use Rattle.sheet.specs.Reading.{Read, known, lengthOf}
+use Rattle.sheet.specs.Reading.{Read, known, lengthOf, scan}
 use Rattle.sheet.specs.FirstByte.{instruction}
+use Rattle.sheet.specs.CardCodes.{cardInstruction}
 use Rattle.sheet.specs.Registers.{PS, PC, fileOf}
-use Rattle.sheet.specs.World.{World}
+use Rattle.sheet.specs.World.{World, pswOf}
 use Rattle.sheet.specs.Step.{codeAt, codeByte, source, instructionIn}
 use Rattle.sheet.proofs.ReadingLaws.{scan-rests}
 use Rattle.rom_form.specs.Listing.{top, readAt, whole, sizeOf, sizeAt}
@@ -70,7 +74,7 @@ module _ (ram image : List ℕ) (ps pc : ℕ) where
 
 -- ---- what is read there
 
-module _ (w : World) where
+module _ (w : World) (native : nativeOf (pswOf (w .state)) ≡ true) where
   abbrev ps : ℕ
   ps = fileOf (w .state .file) PS
 
@@ -80,17 +84,23 @@ module _ (w : World) where
   abbrev listed : ℕ → ℕ
   listed = listedByte (w .ram) (w .rom) ps pc
 
-  -- what the listing reads, instruction or refusal, the engine reads with the image as its ROM
+  as-native : instructionIn w ≡ scan instruction (source w) 0
+  unfolding instructionIn
+  as-native = ap (λ b. scan (pick b instruction cardInstruction) (source w) 0) native
+
+  -- what the listing reads, instruction or refusal, the engine reads in native mode with the image as its ROM
   pub engine-reads : (r : Read Instr) → Lies (w .ram) (w .rom) ps pc (lengthOf r) → readAt (w .rom) (physical ps pc) ≡ r → instructionIn w ≡ r
-  unfolding instructionIn readAt
-  engine-reads r l e = sym (scan-rests instruction listed (source w) 0 (λ j low high. sym (same-byte (w .ram) (w .rom) ps pc l (rw e at (nine-read listed)) j (rw e at high)))) ∙ e
+  unfolding readAt
+  engine-reads r l e = as-native ∙ sym (scan-rests instruction listed (source w) 0 (λ j low high. sym (same-byte (w .ram) (w .rom) ps pc l (rw e at (nine-read listed)) j (rw e at high)))) ∙ e
 
   -- and the other way round
   pub listing-reads : (r : Read Instr) → Lies (w .ram) (w .rom) ps pc (lengthOf r) → instructionIn w ≡ r → readAt (w .rom) (physical ps pc) ≡ r
-  unfolding instructionIn readAt
-  listing-reads r l e = sym (scan-rests instruction (source w) listed 0 (λ j low high. same-byte (w .ram) (w .rom) ps pc l (rw e at (nine-read (source w))) j (rw e at high))) ∙ e
+  unfolding readAt
+  listing-reads r l e =
+      let f : scan instruction (source w) 0 ≡ r = sym as-native ∙ e in
+      sym (scan-rests instruction (source w) listed 0 (λ j low high. same-byte (w .ram) (w .rom) ps pc l (rw f at (nine-read (source w))) j (rw f at high))) ∙ f
 
   -- the line there names as many bytes as the engine's instruction has
   pub same-length : (i : Instr) (n : ℕ) → Lies (w .ram) (w .rom) ps pc n → instructionIn w ≡ known i n → sizeAt (w .rom) (physical ps pc) ≡ n
-  unfolding instructionIn sizeAt sizeOf whole
-  same-length i n l e = rw (listing-reads (known i n) l e, le-leb n (top - physical ps pc) (l .ends), le-leb n 9 (nine-bytes (source w) i n e)) refl
+  unfolding sizeAt sizeOf whole
+  same-length i n l e = rw (listing-reads (known i n) l e, le-leb n (top - physical ps pc) (l .ends), le-leb n 9 (nine-bytes (source w) i n (sym as-native ∙ e))) refl

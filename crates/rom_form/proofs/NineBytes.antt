@@ -24,7 +24,7 @@ use Rattle.sheet.specs.Groups.{Calculates}
 use Rattle.sheet.specs.Registers.{inDs1}
 use Rattle.sheet.specs.Reading.{Reading, known, scan, lengthOf, word, _>>=_}
 use Rattle.sheet.specs.Encoding.{Prefix, prefixOf, unprefixed, withPrefix, regField, place, inMemory, address, withDisplacement, displacement, formed, Row, lookUp}
-use Rattle.sheet.specs.SecondByte.{withPlain, bitInCl, bitGiven, fieldInRegister, fieldGiven, secondBytes}
+use Rattle.sheet.specs.SecondByte.{withPlain, bitInCl, bitGiven, fieldInRegister, fieldGiven, breakForEmulation, secondBytes}
 use Rattle.sheet.specs.FirstByte.{operationAt, sixCodes, smallImmediate, withPlace, withImmediate, withShift, shiftGroup, groupF6, groupFE, groupFF, fromSegment, toSegment, afterTen, withCounted, bytes00, bytes40, bytes80, bytesC0, firstBytes, afterPrefix, prefixed, instruction}
 use Rattle.rom_form.proofs.Room.{Room, stop, scan-room, bind, either, spare, nothing, of-byte, of-word, of-immediate, of-signedByte, of-allow, of-place, of-memory, of-plainPlace, Short, ready, into, of-withPlace, of-withMemory, of-withAcc, of-withByte, of-withWord, of-withShort, of-withFar, Rows, none-more, _also_, of-lookUp, both}
 
@@ -50,6 +50,10 @@ of-fieldGiven : (k : ℕ → Length → Reading Instr) → ((o : ℕ) (l : Lengt
 unfolding fieldGiven
 of-fieldGiven k h = bind of-byte λ m. bind (of-allow _) λ _. bind of-byte λ n. h _ _
 
+of-breakForEmulation : Short 4 breakForEmulation
+unfolding breakForEmulation
+of-breakForEmulation = into _ of-byte
+
 of-secondBytes : (p : Prefixes) → Rows 4 (secondBytes p)
 of-secondBytes p =
     of-bitInCl p _
@@ -69,6 +73,7 @@ of-secondBytes p =
     also (λ n. of-fieldInRegister _ λ o l. ready)
     also (λ n. of-fieldGiven _ λ o l. ready)
     also (λ n. of-fieldGiven _ λ o l. ready)
+    also (λ n. of-breakForEmulation)
     also none-more
 
 -- ---- at most five bytes behind a first byte

@@ -8,18 +8,18 @@ ghost use Prim.Native.Nat.{_+_, _-_, _*_, _≤_, _<_};
 ghost use lib.ListN.{length, getD, take, drop, replicate};
 ghost use mathlib.Core.Path.{_≡_};
 ghost use Rattle.base_text.specs.Text.{hex};
-ghost use Rattle.base_line.specs.Adds.{Adds};
+ghost use Rattle.base_line.specs.Adds.{AddsTo};
 ghost use Rattle.rom_form.specs.Listing.{bytesText, top, whole};
 ghost use Rattle.rom_line.specs.Makes.{headText, instrLine, dataLine, MakesByte, Makes};
 
 fn put_pair(line: &mut [u8; 80], at: usize, b: u8) -> usize
-    ensures { λ r. ⌜ Adds (hex 2 b) (now (line .entry)) at r (now (line .exit)) ⌝ }
+    ensures { λ r. ⌜ AddsTo (hex 2 b) line at r ⌝ }
 {
     put_hex(line, at, b as u64, 2)
 }
 
 fn put_digits(line: &mut [u8; 80], at: usize, bytes: &[u8]) -> usize
-    ensures { λ r. ⌜ Adds (bytesText (now (bytes .entry))) (now (line .entry)) at r (now (line .exit)) ⌝ }
+    ensures { λ r. ⌜ AddsTo (bytesText (now (bytes .entry))) line at r ⌝ }
 {
     let mut end = at;
     let mut i = 0;
@@ -31,7 +31,7 @@ fn put_digits(line: &mut [u8; 80], at: usize, bytes: &[u8]) -> usize
 }
 
 fn put_spaces(line: &mut [u8; 80], at: usize, n: usize) -> usize
-    ensures { λ r. ⌜ Adds (replicate n 32) (now (line .entry)) at r (now (line .exit)) ⌝ }
+    ensures { λ r. ⌜ AddsTo (replicate n 32) line at r ⌝ }
 {
     let mut end = at;
     let mut i = 0;
@@ -45,7 +45,7 @@ fn put_spaces(line: &mut [u8; 80], at: usize, n: usize) -> usize
 // The address and the bytes, up to where the words begin.
 fn put_head(line: &mut [u8; 80], a: u32, bytes: &[u8]) -> usize
     requires { ⌜ length (now bytes) ≤ 9 ⌝ }
-    ensures { λ r. ⌜ Adds (headText a (now (bytes .entry))) (now (line .entry)) 0 r (now (line .exit)) ⌝ }
+    ensures { λ r. ⌜ AddsTo (headText a (now (bytes .entry))) line 0 r ⌝ }
 {
     let x = put_hex(line, 0, a as u64, 5);
     let y = put_byte(line, x, b' ');
@@ -55,7 +55,7 @@ fn put_head(line: &mut [u8; 80], a: u32, bytes: &[u8]) -> usize
 
 fn put_instr_line(line: &mut [u8; 80], a: u32, bytes: &[u8], next: u32, i: Instr) -> usize
     requires { ⌜ length (now bytes) ≤ 9 ⌝ }
-    ensures { λ r. ⌜ Adds (instrLine a (now (bytes .entry)) next i) (now (line .entry)) 0 r (now (line .exit)) ⌝ }
+    ensures { λ r. ⌜ AddsTo (instrLine a (now (bytes .entry)) next i) line 0 r ⌝ }
 {
     let x = put_head(line, a, bytes);
     let y = rom_words::put_instr(line, x, next, i);
@@ -64,7 +64,7 @@ fn put_instr_line(line: &mut [u8; 80], a: u32, bytes: &[u8], next: u32, i: Instr
 
 fn put_data_line(line: &mut [u8; 80], a: u32, bytes: &[u8], b: u8) -> usize
     requires { ⌜ length (now bytes) ≤ 9 ⌝ }
-    ensures { λ r. ⌜ Adds (dataLine a (now (bytes .entry)) b) (now (line .entry)) 0 r (now (line .exit)) ⌝ }
+    ensures { λ r. ⌜ AddsTo (dataLine a (now (bytes .entry)) b) line 0 r ⌝ }
 {
     let x = put_head(line, a, bytes);
     let y = put_word(line, x, b"DB ");

@@ -34,7 +34,8 @@ fn measure(image: &[u8]) -> usize
 }
 
 fn put_line(out: &mut [u8], image: &[u8], a: u32) -> Made
-    requires { ⌜ (length (lineAt (now image) a) ≤ length (now out)) × ((top ≤ a + length (now image)) × ((a < top) × (length (now image) ≤ 32768))) ⌝ }
+    requires { ⌜ (length (lineAt (now image) a) ≤ length (now out))
+        × ((top ≤ a + length (now image)) × ((a < top) × (length (now image) ≤ 32768))) ⌝ }
     ensures { λ r. ⌜ Puts (now (image .entry)) a (now (out .entry)) (r .len) (r .size) (now (out .exit)) ⌝ }
 {
     let mut line = [0; 80];

@@ -35,13 +35,15 @@ use Rattle.sheet.specs.declared.Decimal.the-variants.{Add4s, Sub4s, Cmp4s, Rol4
 use Rattle.sheet.specs.declared.Field.{Field}
 use Rattle.sheet.specs.declared.Field.the-variants.{Ins, Ext}
 use Rattle.sheet.specs.declared.Stack.{Stack}
-use Rattle.sheet.specs.declared.Stack.the-variants.{Push, PushByte, PushWord, PushSegment, PushPsw, PushR, Pop, PopSegment, PopPsw, PopR, Prepare, Dispose}
+use Rattle.sheet.specs.declared.Stack.the-variants.{Push, PushByte, PushWord, PushSegment, PushPsw, PushR, Pop, PopSegment, PopR, Prepare, Dispose}
 use Rattle.sheet.specs.declared.Branch.{Branch}
 use Rattle.sheet.specs.declared.Branch.the-variants.{CallNear, CallTo, CallFar, CallFarAt, Ret, RetPop, RetFar, RetFarPop, BrNear, BrShort, BrTo, BrFar, BrFarAt}
 use Rattle.sheet.specs.declared.Conditional.{Conditional}
 use Rattle.sheet.specs.declared.Conditional.the-variants.{If, Dbnzne, Dbnze, Dbnz, Bcwz}
 use Rattle.sheet.specs.declared.Interrupt.{Interrupt}
-use Rattle.sheet.specs.declared.Interrupt.the-variants.{Brk3, Brk, Brkv, Reti, Chkind}
+use Rattle.sheet.specs.declared.Interrupt.the-variants.{Brk3, Brk, Brkv, Chkind}
+use Rattle.sheet.specs.declared.Mode.{Mode}
+use Rattle.sheet.specs.declared.Mode.the-variants.{PopPsw, Reti, Brkem}
 use Rattle.sheet.specs.declared.Primitive.{Primitive}
 use Rattle.sheet.specs.declared.Primitive.the-variants.{Movbk, Cmpbk, Cmpm, Ldm, Stm, Inm, Outm}
 use Rattle.sheet.specs.declared.Repeat.{Repeat}
@@ -55,7 +57,7 @@ use Rattle.sheet.specs.declared.Compute.the-variants as compute
 use Rattle.sheet.specs.declared.Move.{Move}
 use Rattle.sheet.specs.declared.Move.the-variants as move
 use Rattle.sheet.specs.declared.Instr.{Instr}
-use Rattle.sheet.specs.declared.Instr.the-variants.{Computes, Moves, Multiplies, Interrupts, Blocks, Ports, Controls}
+use Rattle.sheet.specs.declared.Instr.the-variants.{Computes, Moves, Multiplies, Interrupts, Blocks, Ports, Controls, Modes, Cards}
 use Rattle.sheet.specs.Width.{pick}
 use Rattle.sheet.specs.Registers.{DW, IX, IY}
 use Rattle.sheet.specs.Operand.{formAt}
@@ -66,7 +68,7 @@ use Rattle.rom_mnemonic.specs.declared.Size.the-variants.{Unsaid, Byte, 
 use Rattle.rom_mnemonic.specs.declared.Operand.{Operand}
 use Rattle.rom_mnemonic.specs.declared.Operand.the-variants.{Reg, Seg, Mem, Block, Value, Once, Target, Far}
 use Rattle.rom_mnemonic.specs.Operands.{byteRegisters, wordRegisters, segments, letter, registerText, segmentText, sizeText, indexText, formText, dispText, opening, within, formedText, addressText, sizeOf, operandText}
-use Rattle.rom_mnemonic.specs.Mnemonics.{after, afterTwo, afterThree, one, two, three, operationName, unaryName, shiftName, bitName, conditionLetters, conditionLetter, conditionName, repeatText, transferText, arithmeticText, productText, multiplyText, convertText, decimalText, fieldText, pushText, stackText, farText, farAtText, returnText, branchText, conditionalText, interruptText, primitiveText, portText, controlText, computeText, moveText, instrText}
+use Rattle.rom_mnemonic.specs.Mnemonics.{after, afterTwo, afterThree, one, two, three, operationName, unaryName, shiftName, bitName, conditionLetters, conditionLetter, conditionName, repeatText, transferText, arithmeticText, productText, multiplyText, convertText, decimalText, fieldText, pushText, stackText, farText, farAtText, returnText, branchText, conditionalText, interruptText, modeText, primitiveText, portText, controlText, computeText, moveText, instrText}
 use Rattle.rom_mnemonic.specs.Printed.{Printed, no-more, and-then}
 
 -- a text of at most n characters, all of them printed
@@ -359,7 +361,6 @@ stack-fits PushPsw = word refl
 stack-fits PushR = word refl
 stack-fits (Pop p) = one-fits _ (word refl)
 stack-fits (PopSegment seg) = one-fits _ (word refl)
-stack-fits PopPsw = word refl
 stack-fits PopR = word refl
 stack-fits (Prepare size level) = two-fits _ _ (word refl)
 stack-fits Dispose = word refl
@@ -414,8 +415,13 @@ unfolding interruptText
 interrupt-fits Brk3 = word refl
 interrupt-fits (Brk vector) = one-fits _ (word refl)
 interrupt-fits Brkv = word refl
-interrupt-fits Reti = word refl
 interrupt-fits (Chkind reg at) = two-fits _ _ (word refl)
+
+mode-fits : (i : Mode) → Line (modeText i)
+unfolding modeText
+mode-fits PopPsw = word refl
+mode-fits Reti = word refl
+mode-fits (Brkem vector) = one-fits _ (word refl)
 
 port-fits : (i : Io) → Line (portText i)
 unfolding portText
@@ -478,6 +484,8 @@ instr-fits next (Interrupts i) = interrupt-fits i
 instr-fits next (Blocks p w seg r) = joined (repeat-fits r) (primitive-fits p w seg)
 instr-fits next (Ports i) = port-fits i
 instr-fits next (Controls i) = control-fits i
+instr-fits next (Modes i) = mode-fits i
+instr-fits next (Cards i) = word refl
 
 pub words-short : (next : ℕ) (i : Instr) → length (instrText next i) ≤ 54
 words-short next i = instr-fits next i .short

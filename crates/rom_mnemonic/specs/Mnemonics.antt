@@ -38,13 +38,15 @@ use Rattle.sheet.specs.declared.Decimal.the-variants.{Add4s, Sub4s, Cmp4s, Rol4
 use Rattle.sheet.specs.declared.Field.{Field}
 use Rattle.sheet.specs.declared.Field.the-variants.{Ins, Ext}
 use Rattle.sheet.specs.declared.Stack.{Stack}
-use Rattle.sheet.specs.declared.Stack.the-variants.{Push, PushByte, PushWord, PushSegment, PushPsw, PushR, Pop, PopSegment, PopPsw, PopR, Prepare, Dispose}
+use Rattle.sheet.specs.declared.Stack.the-variants.{Push, PushByte, PushWord, PushSegment, PushPsw, PushR, Pop, PopSegment, PopR, Prepare, Dispose}
 use Rattle.sheet.specs.declared.Branch.{Branch}
 use Rattle.sheet.specs.declared.Branch.the-variants.{CallNear, CallTo, CallFar, CallFarAt, Ret, RetPop, RetFar, RetFarPop, BrNear, BrShort, BrTo, BrFar, BrFarAt}
 use Rattle.sheet.specs.declared.Conditional.{Conditional}
 use Rattle.sheet.specs.declared.Conditional.the-variants.{If, Dbnzne, Dbnze, Dbnz, Bcwz}
 use Rattle.sheet.specs.declared.Interrupt.{Interrupt}
-use Rattle.sheet.specs.declared.Interrupt.the-variants.{Brk3, Brk, Brkv, Reti, Chkind}
+use Rattle.sheet.specs.declared.Interrupt.the-variants.{Brk3, Brk, Brkv, Chkind}
+use Rattle.sheet.specs.declared.Mode.{Mode}
+use Rattle.sheet.specs.declared.Mode.the-variants.{PopPsw, Reti, Brkem}
 use Rattle.sheet.specs.declared.Primitive.{Primitive}
 use Rattle.sheet.specs.declared.Primitive.the-variants.{Movbk, Cmpbk, Cmpm, Ldm, Stm, Inm, Outm}
 use Rattle.sheet.specs.declared.Repeat.{Repeat}
@@ -58,7 +60,7 @@ use Rattle.sheet.specs.declared.Compute.the-variants as compute
 use Rattle.sheet.specs.declared.Move.{Move}
 use Rattle.sheet.specs.declared.Move.the-variants as move
 use Rattle.sheet.specs.declared.Instr.{Instr}
-use Rattle.sheet.specs.declared.Instr.the-variants.{Computes, Moves, Multiplies, Interrupts, Blocks, Ports, Controls}
+use Rattle.sheet.specs.declared.Instr.the-variants.{Computes, Moves, Multiplies, Interrupts, Blocks, Ports, Controls, Modes, Cards}
 use Rattle.sheet.specs.Width.{pick}
 use Rattle.sheet.specs.Registers.{AW, CL, DW, BW, IX, IY}
 use Rattle.base_text.specs.Text.{text}
@@ -230,7 +232,6 @@ stackText PushPsw = text "PUSH PSW"
 stackText PushR = text "PUSH R"
 stackText (Pop p) = one (text "POP") (ofPlace true p)
 stackText (PopSegment seg) = one (text "POP") (Seg seg)
-stackText PopPsw = text "POP PSW"
 stackText PopR = text "POP R"
 stackText (Prepare size level) = two (text "PREPARE") (Value true size) (Value false level)
 stackText Dispose = text "DISPOSE"
@@ -282,8 +283,12 @@ unfoldable pub interruptText : Interrupt → List ℕ
 interruptText Brk3 = text "BRK 3"
 interruptText (Brk vector) = one (text "BRK") (Value false vector)
 interruptText Brkv = text "BRKV"
-interruptText Reti = text "RETI"
 interruptText (Chkind reg at) = two (text "CHKIND") (Reg true reg) (Mem Pair at)
+
+unfoldable pub modeText : Mode → List ℕ
+modeText PopPsw = text "POP PSW"
+modeText Reti = text "RETI"
+modeText (Brkem vector) = one (text "BRKEM") (Value false vector)
 
 -- the first name of the prefix's row, and a space
 unfoldable pub repeatText : Repeat → List ℕ
@@ -341,3 +346,6 @@ instrText next (Interrupts i) = interruptText i
 instrText next (Blocks p w seg r) = repeatText r ++ primitiveText p w seg
 instrText next (Ports i) = portText i
 instrText next (Controls i) = controlText i
+instrText next (Modes i) = modeText i
+-- a listing is of native code, so no line has it
+instrText next (Cards i) = text "8080"

@@ -14,7 +14,7 @@ use sheet::Source;
 ghost use mathlib.Core.Path.{_≡_};
 ghost use Prim.Native.Nat.{_<_};
 ghost use Rattle.sheet.specs.Operand.{formAt};
-ghost use Rattle.base_line.specs.Adds.{Adds};
+ghost use Rattle.base_line.specs.Adds.{AddsTo};
 ghost use Rattle.rom_mnemonic.specs.declared.Operand.the-variants as operand;
 ghost use Rattle.rom_mnemonic.specs.Operands as text;
 ghost use Rattle.rom_mnemonic.specs.Mnemonics as words;
@@ -88,7 +88,7 @@ fn letter(word: bool, i: usize) -> u8
 }
 
 fn put_register(line: &mut [u8; 80], at: usize, word: bool, n: u8) -> usize
-    ensures { λ r. ⌜ Adds (text.registerText word n) (now (line .entry)) at r (now (line .exit)) ⌝ }
+    ensures { λ r. ⌜ AddsTo (text.registerText word n) line at r ⌝ }
 {
     let i = 2 * (n % 8) as usize;
     let end = put_byte(line, at, letter(word, i));
@@ -96,7 +96,7 @@ fn put_register(line: &mut [u8; 80], at: usize, word: bool, n: u8) -> usize
 }
 
 fn put_segment(line: &mut [u8; 80], at: usize, n: u8) -> usize
-    ensures { λ r. ⌜ Adds (text.segmentText n) (now (line .entry)) at r (now (line .exit)) ⌝ }
+    ensures { λ r. ⌜ AddsTo (text.segmentText n) line at r ⌝ }
 {
     let seg = n % 4;
     if seg == 0 {
@@ -112,7 +112,7 @@ fn put_segment(line: &mut [u8; 80], at: usize, n: u8) -> usize
 }
 
 fn put_size(line: &mut [u8; 80], at: usize, size: Size) -> usize
-    ensures { λ r. ⌜ Adds (text.sizeText size) (now (line .entry)) at r (now (line .exit)) ⌝ }
+    ensures { λ r. ⌜ AddsTo (text.sizeText size) line at r ⌝ }
 {
     match size {
         Size::Unsaid => at,
@@ -123,7 +123,7 @@ fn put_size(line: &mut [u8; 80], at: usize, size: Size) -> usize
 }
 
 fn put_index(line: &mut [u8; 80], at: usize, index: Index) -> usize
-    ensures { λ r. ⌜ Adds (text.indexText index) (now (line .entry)) at r (now (line .exit)) ⌝ }
+    ensures { λ r. ⌜ AddsTo (text.indexText index) line at r ⌝ }
 {
     match index {
         Index::Of(n) => {
@@ -135,7 +135,7 @@ fn put_index(line: &mut [u8; 80], at: usize, index: Index) -> usize
 }
 
 fn put_form(line: &mut [u8; 80], at: usize, n: u8) -> usize
-    ensures { λ r. ⌜ Adds (text.formText (formAt n)) (now (line .entry)) at r (now (line .exit)) ⌝ }
+    ensures { λ r. ⌜ AddsTo (text.formText (formAt n)) line at r ⌝ }
 {
     let form = mach_forms::form_at(n);
     let index = form.index;
@@ -144,7 +144,7 @@ fn put_form(line: &mut [u8; 80], at: usize, n: u8) -> usize
 }
 
 fn put_disp(line: &mut [u8; 80], at: usize, disp: u16) -> usize
-    ensures { λ r. ⌜ Adds (text.dispText disp) (now (line .entry)) at r (now (line .exit)) ⌝ }
+    ensures { λ r. ⌜ AddsTo (text.dispText disp) line at r ⌝ }
 {
     if disp == 0 {
         return at;
@@ -155,21 +155,21 @@ fn put_disp(line: &mut [u8; 80], at: usize, disp: u16) -> usize
 
 // A segment, up to the offset in it.
 fn put_within(line: &mut [u8; 80], at: usize, seg: u8) -> usize
-    ensures { λ r. ⌜ Adds (text.opening seg) (now (line .entry)) at r (now (line .exit)) ⌝ }
+    ensures { λ r. ⌜ AddsTo (text.opening seg) line at r ⌝ }
 {
     let end = put_segment(line, at, seg);
     put_word(line, end, b":[")
 }
 
 fn put_formed(line: &mut [u8; 80], at: usize, form: u8, disp: u16) -> usize
-    ensures { λ r. ⌜ Adds (text.formedText form disp) (now (line .entry)) at r (now (line .exit)) ⌝ }
+    ensures { λ r. ⌜ AddsTo (text.formedText form disp) line at r ⌝ }
 {
     let end = put_form(line, at, form);
     put_disp(line, end, disp)
 }
 
 fn put_address(line: &mut [u8; 80], at: usize, a: Address) -> usize
-    ensures { λ r. ⌜ Adds (text.addressText a) (now (line .entry)) at r (now (line .exit)) ⌝ }
+    ensures { λ r. ⌜ AddsTo (text.addressText a) line at r ⌝ }
 {
     match a {
         Address::Formed { seg, form, disp } => {
@@ -187,7 +187,7 @@ fn put_address(line: &mut [u8; 80], at: usize, a: Address) -> usize
 
 // What an index register points to in a segment.
 fn put_block(line: &mut [u8; 80], at: usize, word: bool, seg: u8, by: u8) -> usize
-    ensures { λ r. ⌜ Adds (text.operandText (operand.Block word seg by)) (now (line .entry)) at r (now (line .exit)) ⌝ }
+    ensures { λ r. ⌜ AddsTo (text.operandText (operand.Block word seg by)) line at r ⌝ }
 {
     let a = put_size(line, at, size_of(word));
     let b = put_within(line, a, seg);
@@ -196,7 +196,7 @@ fn put_block(line: &mut [u8; 80], at: usize, word: bool, seg: u8, by: u8) -> usi
 }
 
 fn put_value(line: &mut [u8; 80], at: usize, word: bool, value: u16) -> usize
-    ensures { λ r. ⌜ Adds (text.operandText (operand.Value word value)) (now (line .entry)) at r (now (line .exit)) ⌝ }
+    ensures { λ r. ⌜ AddsTo (text.operandText (operand.Value word value)) line at r ⌝ }
 {
     if word {
         return put_hex(line, at, value as u64, 4);
@@ -205,7 +205,7 @@ fn put_value(line: &mut [u8; 80], at: usize, word: bool, value: u16) -> usize
 }
 
 fn put_far(line: &mut [u8; 80], at: usize, ps: u16, pc: u16) -> usize
-    ensures { λ r. ⌜ Adds (text.operandText (operand.Far ps pc)) (now (line .entry)) at r (now (line .exit)) ⌝ }
+    ensures { λ r. ⌜ AddsTo (text.operandText (operand.Far ps pc)) line at r ⌝ }
 {
     let a = put_hex(line, at, ps as u64, 4);
     let b = put_byte(line, a, b':');
@@ -213,7 +213,7 @@ fn put_far(line: &mut [u8; 80], at: usize, ps: u16, pc: u16) -> usize
 }
 
 fn put_operand(line: &mut [u8; 80], at: usize, o: Operand) -> usize
-    ensures { λ r. ⌜ Adds (text.operandText o) (now (line .entry)) at r (now (line .exit)) ⌝ }
+    ensures { λ r. ⌜ AddsTo (text.operandText o) line at r ⌝ }
 {
     match o {
         Operand::Reg { word, number } => put_register(line, at, word, number),
@@ -234,14 +234,14 @@ fn put_operand(line: &mut [u8; 80], at: usize, o: Operand) -> usize
 
 // What stands behind the mnemonic.
 pub fn put_after(line: &mut [u8; 80], at: usize, a: Operand) -> usize
-    ensures { λ r. ⌜ Adds (words.after a) (now (line .entry)) at r (now (line .exit)) ⌝ }
+    ensures { λ r. ⌜ AddsTo (words.after a) line at r ⌝ }
 {
     let x = put_byte(line, at, b' ');
     put_operand(line, x, a)
 }
 
 pub fn put_after_two(line: &mut [u8; 80], at: usize, a: Operand, b: Operand) -> usize
-    ensures { λ r. ⌜ Adds (words.afterTwo a b) (now (line .entry)) at r (now (line .exit)) ⌝ }
+    ensures { λ r. ⌜ AddsTo (words.afterTwo a b) line at r ⌝ }
 {
     let x = put_after(line, at, a);
     let y = put_byte(line, x, b',');
@@ -249,14 +249,14 @@ pub fn put_after_two(line: &mut [u8; 80], at: usize, a: Operand, b: Operand) -> 
 }
 
 pub fn put_one(line: &mut [u8; 80], at: usize, name: &[u8], a: Operand) -> usize
-    ensures { λ r. ⌜ Adds (words.one (now (name .entry)) a) (now (line .entry)) at r (now (line .exit)) ⌝ }
+    ensures { λ r. ⌜ AddsTo (words.one (now (name .entry)) a) line at r ⌝ }
 {
     let x = put_word(line, at, name);
     put_after(line, x, a)
 }
 
 pub fn put_two(line: &mut [u8; 80], at: usize, name: &[u8], a: Operand, b: Operand) -> usize
-    ensures { λ r. ⌜ Adds (words.two (now (name .entry)) a b) (now (line .entry)) at r (now (line .exit)) ⌝ }
+    ensures { λ r. ⌜ AddsTo (words.two (now (name .entry)) a b) line at r ⌝ }
 {
     let x = put_word(line, at, name);
     put_after_two(line, x, a, b)
@@ -270,7 +270,7 @@ pub fn put_three(
     b: Operand,
     c: Operand,
 ) -> usize
-    ensures { λ r. ⌜ Adds (words.three (now (name .entry)) a b c) (now (line .entry)) at r (now (line .exit)) ⌝ }
+    ensures { λ r. ⌜ AddsTo (words.three (now (name .entry)) a b c) line at r ⌝ }
 {
     let x = put_word(line, at, name);
     let y = put_after_two(line, x, a, b);
@@ -375,14 +375,14 @@ pub fn target(next: u32, disp: u16) -> Operand
 // ---- the operands that most instructions have
 
 pub fn put_after_place(line: &mut [u8; 80], at: usize, word: bool, p: Place) -> usize
-    ensures { λ r. ⌜ Adds (words.after (words.ofPlace word p)) (now (line .entry)) at r (now (line .exit)) ⌝ }
+    ensures { λ r. ⌜ AddsTo (words.after (words.ofPlace word p)) line at r ⌝ }
 {
     let o = of_place(word, p);
     put_after(line, at, o)
 }
 
 pub fn put_place(line: &mut [u8; 80], at: usize, name: &[u8], word: bool, p: Place) -> usize
-    ensures { λ r. ⌜ Adds (words.one (now (name .entry)) (words.ofPlace word p)) (now (line .entry)) at r (now (line .exit)) ⌝ }
+    ensures { λ r. ⌜ AddsTo (words.one (now (name .entry)) (words.ofPlace word p)) line at r ⌝ }
 {
     let x = put_word(line, at, name);
     put_after_place(line, x, word, p)
@@ -395,7 +395,7 @@ pub fn put_after_place_source(
     to: Place,
     from: Source,
 ) -> usize
-    ensures { λ r. ⌜ Adds (words.afterTwo (words.ofPlace word to) (words.ofSource word from)) (now (line .entry)) at r (now (line .exit)) ⌝ }
+    ensures { λ r. ⌜ AddsTo (words.afterTwo (words.ofPlace word to) (words.ofSource word from)) line at r ⌝ }
 {
     let a = of_place(word, to);
     let b = of_source(word, from);
@@ -410,14 +410,14 @@ pub fn put_place_source(
     to: Place,
     from: Source,
 ) -> usize
-    ensures { λ r. ⌜ Adds (words.two (now (name .entry)) (words.ofPlace word to) (words.ofSource word from)) (now (line .entry)) at r (now (line .exit)) ⌝ }
+    ensures { λ r. ⌜ AddsTo (words.two (now (name .entry)) (words.ofPlace word to) (words.ofSource word from)) line at r ⌝ }
 {
     let x = put_word(line, at, name);
     put_after_place_source(line, x, word, to, from)
 }
 
 pub fn put_target(line: &mut [u8; 80], at: usize, name: &[u8], next: u32, disp: u16) -> usize
-    ensures { λ r. ⌜ Adds (words.one (now (name .entry)) (words.target next disp)) (now (line .entry)) at r (now (line .exit)) ⌝ }
+    ensures { λ r. ⌜ AddsTo (words.one (now (name .entry)) (words.target next disp)) line at r ⌝ }
 {
     let o = target(next, disp);
     put_one(line, at, name, o)

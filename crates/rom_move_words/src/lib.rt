@@ -23,7 +23,7 @@ use sheet::Transfer;
 ghost use mathlib.Core.Path.{_≡_};
 ghost use mathlib.Core.Bool.{true};
 ghost use Prim.Native.Nat.{_<_};
-ghost use Rattle.base_line.specs.Adds.{Adds};
+ghost use Rattle.base_line.specs.Adds.{AddsTo};
 ghost use Rattle.base_text.specs.Text.{text};
 ghost use Rattle.rom_mnemonic.specs.declared.Size.the-variants.{Pair};
 ghost use Rattle.rom_mnemonic.specs.declared.Operand.the-variants.{Reg, Seg, Mem};
@@ -36,7 +36,7 @@ const ACC: u8 = 0;
 const BW: u8 = 3;
 
 fn put_load(line: &mut [u8; 80], at: usize, word: bool, from: Address) -> usize
-    ensures { λ r. ⌜ Adds (words.two (text "MOV") (words.acc word) (Mem (sizeOf word) from)) (now (line .entry)) at r (now (line .exit)) ⌝ }
+    ensures { λ r. ⌜ AddsTo (words.two (text "MOV") (words.acc word) (Mem (sizeOf word) from)) line at r ⌝ }
 {
     let size = size_of(word);
     put_two(
@@ -52,7 +52,7 @@ fn put_load(line: &mut [u8; 80], at: usize, word: bool, from: Address) -> usize
 }
 
 fn put_store(line: &mut [u8; 80], at: usize, word: bool, to: Address) -> usize
-    ensures { λ r. ⌜ Adds (words.two (text "MOV") (Mem (sizeOf word) to) (words.acc word)) (now (line .entry)) at r (now (line .exit)) ⌝ }
+    ensures { λ r. ⌜ AddsTo (words.two (text "MOV") (Mem (sizeOf word) to) (words.acc word)) line at r ⌝ }
 {
     let size = size_of(word);
     put_two(
@@ -65,21 +65,21 @@ fn put_store(line: &mut [u8; 80], at: usize, word: bool, to: Address) -> usize
 }
 
 fn put_to_segment(line: &mut [u8; 80], at: usize, seg: u8, from: Place) -> usize
-    ensures { λ r. ⌜ Adds (words.two (text "MOV") (Seg seg) (words.ofPlace true from)) (now (line .entry)) at r (now (line .exit)) ⌝ }
+    ensures { λ r. ⌜ AddsTo (words.two (text "MOV") (Seg seg) (words.ofPlace true from)) line at r ⌝ }
 {
     let o = of_place(true, from);
     put_two(line, at, b"MOV", Operand::Seg(seg), o)
 }
 
 fn put_from_segment(line: &mut [u8; 80], at: usize, to: Place, seg: u8) -> usize
-    ensures { λ r. ⌜ Adds (words.two (text "MOV") (words.ofPlace true to) (Seg seg)) (now (line .entry)) at r (now (line .exit)) ⌝ }
+    ensures { λ r. ⌜ AddsTo (words.two (text "MOV") (words.ofPlace true to) (Seg seg)) line at r ⌝ }
 {
     let o = of_place(true, to);
     put_two(line, at, b"MOV", o, Operand::Seg(seg))
 }
 
 fn put_pointer(line: &mut [u8; 80], at: usize, seg: u8, reg: u8, from: Address) -> usize
-    ensures { λ r. ⌜ Adds (words.three (text "MOV") (Seg seg) (Reg true reg) (Mem Pair from)) (now (line .entry)) at r (now (line .exit)) ⌝ }
+    ensures { λ r. ⌜ AddsTo (words.three (text "MOV") (Seg seg) (Reg true reg) (Mem Pair from)) line at r ⌝ }
 {
     put_three(
         line,
@@ -98,14 +98,14 @@ fn put_pointer(line: &mut [u8; 80], at: usize, seg: u8, reg: u8, from: Address) 
 }
 
 fn put_exchange(line: &mut [u8; 80], at: usize, word: bool, reg: u8, with: Place) -> usize
-    ensures { λ r. ⌜ Adds (words.two (text "XCH") (Reg word reg) (words.ofPlace word with)) (now (line .entry)) at r (now (line .exit)) ⌝ }
+    ensures { λ r. ⌜ AddsTo (words.two (text "XCH") (Reg word reg) (words.ofPlace word with)) line at r ⌝ }
 {
     let o = of_place(word, with);
     put_two(line, at, b"XCH", Operand::Reg { word, number: reg }, o)
 }
 
 fn put_transfer(line: &mut [u8; 80], at: usize, i: Transfer) -> usize
-    ensures { λ r. ⌜ Adds (words.transferText i) (now (line .entry)) at r (now (line .exit)) ⌝ }
+    ensures { λ r. ⌜ AddsTo (words.transferText i) line at r ⌝ }
 {
     match i {
         Transfer::Mov { word, to, from } => put_place_source(line, at, b"MOV", word, to, from),
@@ -144,13 +144,13 @@ fn put_transfer(line: &mut [u8; 80], at: usize, i: Transfer) -> usize
 }
 
 fn put_push(line: &mut [u8; 80], at: usize, value: u16) -> usize
-    ensures { λ r. ⌜ Adds (words.pushText value) (now (line .entry)) at r (now (line .exit)) ⌝ }
+    ensures { λ r. ⌜ AddsTo (words.pushText value) line at r ⌝ }
 {
     put_one(line, at, b"PUSH", Operand::Value { word: true, value })
 }
 
 fn put_stack(line: &mut [u8; 80], at: usize, i: Stack) -> usize
-    ensures { λ r. ⌜ Adds (words.stackText i) (now (line .entry)) at r (now (line .exit)) ⌝ }
+    ensures { λ r. ⌜ AddsTo (words.stackText i) line at r ⌝ }
 {
     match i {
         Stack::Push { from } => put_place(line, at, b"PUSH", true, from),
@@ -161,7 +161,6 @@ fn put_stack(line: &mut [u8; 80], at: usize, i: Stack) -> usize
         Stack::PushR => put_word(line, at, b"PUSH R"),
         Stack::Pop { to } => put_place(line, at, b"POP", true, to),
         Stack::PopSegment { seg } => put_one(line, at, b"POP", Operand::Seg(seg)),
-        Stack::PopPsw => put_word(line, at, b"POP PSW"),
         Stack::PopR => put_word(line, at, b"POP R"),
         Stack::Prepare { size, level } => put_two(
             line,
@@ -182,14 +181,14 @@ fn put_stack(line: &mut [u8; 80], at: usize, i: Stack) -> usize
 
 // A call or a branch to another segment.
 fn put_far(line: &mut [u8; 80], at: usize, name: &[u8], ps: u16, pc: u16) -> usize
-    ensures { λ r. ⌜ Adds (words.farText (now (name .entry)) ps pc) (now (line .entry)) at r (now (line .exit)) ⌝ }
+    ensures { λ r. ⌜ AddsTo (words.farText (now (name .entry)) ps pc) line at r ⌝ }
 {
     put_one(line, at, name, Operand::Far { ps, pc })
 }
 
 // By a pointer of two words in memory.
 fn put_far_at(line: &mut [u8; 80], at: usize, name: &[u8], to: Address) -> usize
-    ensures { λ r. ⌜ Adds (words.farAtText (now (name .entry)) to) (now (line .entry)) at r (now (line .exit)) ⌝ }
+    ensures { λ r. ⌜ AddsTo (words.farAtText (now (name .entry)) to) line at r ⌝ }
 {
     put_one(
         line,
@@ -203,7 +202,7 @@ fn put_far_at(line: &mut [u8; 80], at: usize, name: &[u8], to: Address) -> usize
 }
 
 fn put_return(line: &mut [u8; 80], at: usize, size: u16) -> usize
-    ensures { λ r. ⌜ Adds (words.returnText size) (now (line .entry)) at r (now (line .exit)) ⌝ }
+    ensures { λ r. ⌜ AddsTo (words.returnText size) line at r ⌝ }
 {
     put_one(
         line,
@@ -217,7 +216,7 @@ fn put_return(line: &mut [u8; 80], at: usize, size: u16) -> usize
 }
 
 fn put_branch(line: &mut [u8; 80], at: usize, next: u32, i: Branch) -> usize
-    ensures { λ r. ⌜ Adds (words.branchText next i) (now (line .entry)) at r (now (line .exit)) ⌝ }
+    ensures { λ r. ⌜ AddsTo (words.branchText next i) line at r ⌝ }
 {
     match i {
         Branch::CallNear { disp } => put_target(line, at, b"CALL", next, disp),
@@ -296,7 +295,7 @@ fn letter(i: usize) -> u8
 }
 
 fn put_condition(line: &mut [u8; 80], at: usize, n: u8) -> usize
-    ensures { λ r. ⌜ Adds (words.conditionName n) (now (line .entry)) at r (now (line .exit)) ⌝ }
+    ensures { λ r. ⌜ AddsTo (words.conditionName n) line at r ⌝ }
 {
     let i = 3 * (n % 16) as usize;
     let x = put_byte(line, at, letter(i));
@@ -309,7 +308,7 @@ fn put_condition(line: &mut [u8; 80], at: usize, n: u8) -> usize
 }
 
 fn put_if(line: &mut [u8; 80], at: usize, next: u32, condition: u8, disp: u16) -> usize
-    ensures { λ r. ⌜ Adds (words.one (words.conditionName condition) (words.target next disp)) (now (line .entry)) at r (now (line .exit)) ⌝ }
+    ensures { λ r. ⌜ AddsTo (words.one (words.conditionName condition) (words.target next disp)) line at r ⌝ }
 {
     let x = put_condition(line, at, condition);
     let o = target(next, disp);
@@ -317,7 +316,7 @@ fn put_if(line: &mut [u8; 80], at: usize, next: u32, condition: u8, disp: u16) -
 }
 
 fn put_conditional(line: &mut [u8; 80], at: usize, next: u32, i: Conditional) -> usize
-    ensures { λ r. ⌜ Adds (words.conditionalText next i) (now (line .entry)) at r (now (line .exit)) ⌝ }
+    ensures { λ r. ⌜ AddsTo (words.conditionalText next i) line at r ⌝ }
 {
     match i {
         Conditional::If { condition, disp } => put_if(line, at, next, condition, disp),
@@ -329,7 +328,7 @@ fn put_conditional(line: &mut [u8; 80], at: usize, next: u32, i: Conditional) ->
 }
 
 pub fn put_move(line: &mut [u8; 80], at: usize, next: u32, i: Move) -> usize
-    ensures { λ r. ⌜ Adds (words.moveText next i) (now (line .entry)) at r (now (line .exit)) ⌝ }
+    ensures { λ r. ⌜ AddsTo (words.moveText next i) line at r ⌝ }
 {
     match i {
         Move::Transfers(i) => put_transfer(line, at, i),

@@ -14,13 +14,14 @@ use sheet::Control;
 use sheet::Instr;
 use sheet::Interrupt;
 use sheet::Io;
+use sheet::Mode;
 use sheet::Multiply;
 use sheet::Place;
 use sheet::Primitive;
 use sheet::Repeat;
 ghost use mathlib.Core.Path.{_≡_};
 ghost use mathlib.Core.List.{_++_};
-ghost use Rattle.base_line.specs.Adds.{Adds};
+ghost use Rattle.base_line.specs.Adds.{AddsTo};
 ghost use Rattle.rom_mnemonic.specs.Mnemonics as words;
 
 // AL or AW, the port's register, the index registers of blocks, and the segment of the block that is written.
@@ -35,7 +36,7 @@ const IY: u8 = 7;
 const DS1: u8 = 0;
 
 fn put_product(line: &mut [u8; 80], at: usize, reg: u8, from: Place, by: u16) -> usize
-    ensures { λ r. ⌜ Adds (words.productText reg from by) (now (line .entry)) at r (now (line .exit)) ⌝ }
+    ensures { λ r. ⌜ AddsTo (words.productText reg from by) line at r ⌝ }
 {
     let o = of_place(true, from);
     put_three(
@@ -55,7 +56,7 @@ fn put_product(line: &mut [u8; 80], at: usize, reg: u8, from: Place, by: u16) ->
 }
 
 fn put_multiply(line: &mut [u8; 80], at: usize, i: Multiply) -> usize
-    ensures { λ r. ⌜ Adds (words.multiplyText i) (now (line .entry)) at r (now (line .exit)) ⌝ }
+    ensures { λ r. ⌜ AddsTo (words.multiplyText i) line at r ⌝ }
 {
     match i {
         Multiply::Mulu { word, by } => put_place(line, at, b"MULU", word, by),
@@ -68,7 +69,7 @@ fn put_multiply(line: &mut [u8; 80], at: usize, i: Multiply) -> usize
 }
 
 fn put_interrupt(line: &mut [u8; 80], at: usize, i: Interrupt) -> usize
-    ensures { λ r. ⌜ Adds (words.interruptText i) (now (line .entry)) at r (now (line .exit)) ⌝ }
+    ensures { λ r. ⌜ AddsTo (words.interruptText i) line at r ⌝ }
 {
     match i {
         Interrupt::Brk3 => put_word(line, at, b"BRK 3"),
@@ -82,7 +83,6 @@ fn put_interrupt(line: &mut [u8; 80], at: usize, i: Interrupt) -> usize
             },
         ),
         Interrupt::Brkv => put_word(line, at, b"BRKV"),
-        Interrupt::Reti => put_word(line, at, b"RETI"),
         Interrupt::Chkind { reg, from } => put_two(
             line,
             at,
@@ -99,8 +99,26 @@ fn put_interrupt(line: &mut [u8; 80], at: usize, i: Interrupt) -> usize
     }
 }
 
+fn put_mode(line: &mut [u8; 80], at: usize, i: Mode) -> usize
+    ensures { λ r. ⌜ AddsTo (words.modeText i) line at r ⌝ }
+{
+    match i {
+        Mode::PopPsw => put_word(line, at, b"POP PSW"),
+        Mode::Reti => put_word(line, at, b"RETI"),
+        Mode::Brkem { vector } => put_one(
+            line,
+            at,
+            b"BRKEM",
+            Operand::Value {
+                word: false,
+                value: vector as u16,
+            },
+        ),
+    }
+}
+
 fn put_repeat(line: &mut [u8; 80], at: usize, r: Repeat) -> usize
-    ensures { λ x. ⌜ Adds (words.repeatText r) (now (line .entry)) at x (now (line .exit)) ⌝ }
+    ensures { λ x. ⌜ AddsTo (words.repeatText r) line at x ⌝ }
 {
     match r {
         Repeat::Once => at,
@@ -138,7 +156,7 @@ fn port() -> Operand
 }
 
 fn put_primitive(line: &mut [u8; 80], at: usize, p: Primitive, word: bool, seg: u8) -> usize
-    ensures { λ r. ⌜ Adds (words.primitiveText p word seg) (now (line .entry)) at r (now (line .exit)) ⌝ }
+    ensures { λ r. ⌜ AddsTo (words.primitiveText p word seg) line at r ⌝ }
 {
     let to = written(word);
     let from = read(word, seg);
@@ -161,14 +179,14 @@ fn put_blocks(
     seg: u8,
     repeat: Repeat,
 ) -> usize
-    ensures { λ r. ⌜ Adds (words.repeatText repeat ++ words.primitiveText p word seg) (now (line .entry)) at r (now (line .exit)) ⌝ }
+    ensures { λ r. ⌜ AddsTo (words.repeatText repeat ++ words.primitiveText p word seg) line at r ⌝ }
 {
     let x = put_repeat(line, at, repeat);
     put_primitive(line, x, p, word, seg)
 }
 
 fn put_port(line: &mut [u8; 80], at: usize, i: Io) -> usize
-    ensures { λ r. ⌜ Adds (words.portText i) (now (line .entry)) at r (now (line .exit)) ⌝ }
+    ensures { λ r. ⌜ AddsTo (words.portText i) line at r ⌝ }
 {
     match i {
         Io::In { word, port } => {
@@ -183,7 +201,7 @@ fn put_port(line: &mut [u8; 80], at: usize, i: Io) -> usize
 }
 
 fn put_control(line: &mut [u8; 80], at: usize, i: Control) -> usize
-    ensures { λ r. ⌜ Adds (words.controlText i) (now (line .entry)) at r (now (line .exit)) ⌝ }
+    ensures { λ r. ⌜ AddsTo (words.controlText i) line at r ⌝ }
 {
     match i {
         Control::Nop => put_word(line, at, b"NOP"),
@@ -200,7 +218,7 @@ fn put_control(line: &mut [u8; 80], at: usize, i: Control) -> usize
 
 // With the address of the next instruction.
 pub fn put_instr(line: &mut [u8; 80], at: usize, next: u32, i: Instr) -> usize
-    ensures { λ r. ⌜ Adds (words.instrText next i) (now (line .entry)) at r (now (line .exit)) ⌝ }
+    ensures { λ r. ⌜ AddsTo (words.instrText next i) line at r ⌝ }
 {
     match i {
         Instr::Computes(i) => put_compute(line, at, i),
@@ -215,5 +233,7 @@ pub fn put_instr(line: &mut [u8; 80], at: usize, next: u32, i: Instr) -> usize
         } => put_blocks(line, at, primitive, word, seg, repeat),
         Instr::Ports(i) => put_port(line, at, i),
         Instr::Controls(i) => put_control(line, at, i),
+        Instr::Modes(i) => put_mode(line, at, i),
+        Instr::Cards(i) => put_word(line, at, b"8080"),
     }
 }

@@ -14,9 +14,9 @@ use Rattle.sheet.specs.declared.Prefixes.{Prefixes}
 use Rattle.sheet.specs.declared.Instr.{Instr}
 use Rattle.sheet.specs.declared.Instr.the-variants.{Blocks}
 use Rattle.sheet.specs.Width.{pick}
-use Rattle.sheet.specs.Psw.{Choice}
+use Rattle.sheet.specs.Psw.{Choice, nativeOf}
 use Rattle.sheet.specs.Registers.{inDs0}
-use Rattle.sheet.specs.World.{World}
+use Rattle.sheet.specs.World.{World, pswOf}
 use Rattle.sheet.specs.Handler.{runBy}
 use Rattle.sheet.specs.Reading as reading
 use Rattle.sheet.specs.Reading.{Reading, got, no, known, scan}
@@ -98,16 +98,21 @@ code-read Inm false q = (refl, refl)
 code-read Outm true q = (refl, refl)
 code-read Outm false q = (refl, refl)
 
+-- in native mode the bytes are native code
+pub native-read : (w : World) → nativeOf (pswOf (w .state)) ≡ true → instructionIn w ≡ scan instruction (source w) 0
+unfolding instructionIn
+native-read w m = rw m
+
 -- a block instruction with at most three prefixes is read whole
-pub block-read : {l : List ℕ} {q : Prefixes} (k : Primitive) (b : Bool) (w : World) → Prefixing l unprefixed q → length l ≤ 3 → Begins (l ++ (blockCode k b ∷ [])) (source w) 0
+pub block-read : {l : List ℕ} {q : Prefixes} (k : Primitive) (b : Bool) (w : World) → nativeOf (pswOf (w .state)) ≡ true → Prefixing l unprefixed q → length l ≤ 3 → Begins (l ++ (blockCode k b ∷ [])) (source w) 0
     → instructionIn w ≡ known (Blocks k b (segOr (q .seg) inDs0) (q .repeat)) (0 + length l + 1)
-unfolding instructionIn instruction scan
-block-read {q = q} k b w z r h =
-    scan-prefixes (blockCode k b) 3 (source w) 0 z r (code-read k b q .0) h ∙ rw (code-read k b q .1)
+unfolding instruction scan
+block-read {q = q} k b w m z r h =
+    native-read w m ∙ scan-prefixes (blockCode k b) 3 (source w) 0 z r (code-read k b q .0) h ∙ rw (code-read k b q .1)
 
 -- and the step does it
-pub block-turns : {l : List ℕ} {q : Prefixes} (u : ℕ → Choice) (k : Primitive) (b : Bool) (w : World) → Prefixing l unprefixed q → length l ≤ 3
+pub block-turns : {l : List ℕ} {q : Prefixes} (u : ℕ → Choice) (k : Primitive) (b : Bool) (w : World) → nativeOf (pswOf (w .state)) ≡ true → Prefixing l unprefixed q → length l ≤ 3
     → Begins (l ++ (blockCode k b ∷ [])) (source w) 0 → fits w ≡ true → sound w ≡ true → w .state .marks .halted ≡ false
     → stepBy u w ≡ runBy u (stepping (Blocks k b (segOr (q .seg) inDs0) (q .repeat)) (0 + length l + 1)) (starting (Blocks k b (segOr (q .seg) inDs0) (q .repeat)) w)
 unfolding stepBy awake decoded
-block-turns u k b w z r h f s a = rw (f, s, block-read k b w z r h, a)
+block-turns u k b w m z r h f s a = rw (f, s, block-read k b w m z r h, a)

@@ -11,7 +11,7 @@ use Rattle.sheet.specs.Operand.{formAt}
 use Rattle.sheet.specs.Reading as reading
 use Rattle.sheet.specs.Reading.{Reading, got, need, no, word, immediate, signedByte, allow}
 use Rattle.sheet.specs.Encoding.{Prefix, prefixOf, unprefixed, formed, displacement, withDisplacement, withOffset, address, inMemory, place, memory, lookUp}
-use Rattle.sheet.specs.SecondByte.{plainPlace, withPlain, bitInCl, bitGiven, fieldInRegister, fieldGiven, secondBytes}
+use Rattle.sheet.specs.SecondByte.{plainPlace, withPlain, bitInCl, bitGiven, fieldInRegister, fieldGiven, breakForEmulation, secondBytes}
 use Rattle.sheet.specs.FirstByte.{withPlace, withMemory, operationAt, withAcc, smallImmediate, withImmediate, withShift, shiftGroup, groupF6, groupFE, groupFF, fromSegment, toSegment, afterTen, withByte, withWord, withShort, withFar, withCounted, firstBytes}
 
 -- 0 where the bytes name an instruction, else the refusal; all further bytes are 0
@@ -60,7 +60,7 @@ seconds = countsOf 256 (lookUp (secondBytes unprefixed))
 -- for each first byte how many bytes are accepted behind it: 1 where it needs none, 0 where it is unknown or a prefix
 abbrev pub firstForms : List ℕ
 firstForms =
-    256 ∷ 256 ∷ 256 ∷ 256 ∷ 256 ∷ 256 ∷ 1 ∷ 1 ∷ 256 ∷ 256 ∷ 256 ∷ 256 ∷ 256 ∷ 256 ∷ 1 ∷ 21
+    256 ∷ 256 ∷ 256 ∷ 256 ∷ 256 ∷ 256 ∷ 1 ∷ 1 ∷ 256 ∷ 256 ∷ 256 ∷ 256 ∷ 256 ∷ 256 ∷ 1 ∷ 22
     ∷ 256 ∷ 256 ∷ 256 ∷ 256 ∷ 256 ∷ 256 ∷ 1 ∷ 1 ∷ 256 ∷ 256 ∷ 256 ∷ 256 ∷ 256 ∷ 256 ∷ 1 ∷ 1
     ∷ 256 ∷ 256 ∷ 256 ∷ 256 ∷ 256 ∷ 256 ∷ 0 ∷ 1 ∷ 256 ∷ 256 ∷ 256 ∷ 256 ∷ 256 ∷ 256 ∷ 0 ∷ 1
     ∷ 256 ∷ 256 ∷ 256 ∷ 256 ∷ 256 ∷ 256 ∷ 0 ∷ 1 ∷ 256 ∷ 256 ∷ 256 ∷ 256 ∷ 256 ∷ 256 ∷ 0 ∷ 1
@@ -96,7 +96,7 @@ secondForms =
     ∷ 0 ∷ 0 ∷ 0 ∷ 0 ∷ 0 ∷ 0 ∷ 0 ∷ 0 ∷ 0 ∷ 0 ∷ 0 ∷ 0 ∷ 0 ∷ 0 ∷ 0 ∷ 0
     ∷ 0 ∷ 0 ∷ 0 ∷ 0 ∷ 0 ∷ 0 ∷ 0 ∷ 0 ∷ 0 ∷ 0 ∷ 0 ∷ 0 ∷ 0 ∷ 0 ∷ 0 ∷ 0
     ∷ 0 ∷ 0 ∷ 0 ∷ 0 ∷ 0 ∷ 0 ∷ 0 ∷ 0 ∷ 0 ∷ 0 ∷ 0 ∷ 0 ∷ 0 ∷ 0 ∷ 0 ∷ 0
-    ∷ 0 ∷ 0 ∷ 0 ∷ 0 ∷ 0 ∷ 0 ∷ 0 ∷ 0 ∷ 0 ∷ 0 ∷ 0 ∷ 0 ∷ 0 ∷ 0 ∷ 0 ∷ 0
+    ∷ 0 ∷ 0 ∷ 0 ∷ 0 ∷ 0 ∷ 0 ∷ 0 ∷ 0 ∷ 0 ∷ 0 ∷ 0 ∷ 0 ∷ 0 ∷ 0 ∷ 0 ∷ 256
     ∷ []
 
 -- the bytes that are prefixes, below n, the last first
@@ -113,9 +113,9 @@ pub record Forms : Type 0 where
   pub first-bytes : accepteds firsts ≡ firstForms
   pub second-bytes : accepteds seconds ≡ secondForms
   -- all others are refused with 3
-  pub first-total : total firsts ≡ record { accepted = 33731; refused3 = 2480 }
-  pub second-total : total seconds ≡ record { accepted = 723; refused3 = 5143 }
+  pub first-total : total firsts ≡ record { accepted = 33732; refused3 = 2479 }
+  pub second-total : total seconds ≡ record { accepted = 979; refused3 = 5142 }
 
 pub all-forms : Forms
-unfolding prefixes isPrefix prefixOf accepteds total countsOf codeCount below outcome lookUp reading._>>=_ word immediate signedByte allow formed displacement withDisplacement withOffset address inMemory place memory plainPlace withPlain bitInCl bitGiven fieldInRegister fieldGiven withPlace withMemory operationAt withAcc smallImmediate withImmediate withShift shiftGroup groupF6 groupFE groupFF fromSegment toSegment afterTen withByte withWord withShort withFar withCounted formAt signOf extend
+unfolding prefixes isPrefix prefixOf accepteds total countsOf codeCount below outcome lookUp reading._>>=_ word immediate signedByte allow formed displacement withDisplacement withOffset address inMemory place memory plainPlace withPlain bitInCl bitGiven fieldInRegister fieldGiven breakForEmulation withPlace withMemory operationAt withAcc smallImmediate withImmediate withShift shiftGroup groupF6 groupFE groupFF fromSegment toSegment afterTen withByte withWord withShort withFar withCounted formAt signOf extend
 all-forms = record { prefix-bytes = refl; first-bytes = refl; second-bytes = refl; first-total = refl; second-total = refl }

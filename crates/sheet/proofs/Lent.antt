@@ -1,7 +1,7 @@
 -- What every tree leaves as it found it: the lent buffers' lengths, ROM, the tape, and a sound state.
 use Prim.Native.Nat.{ℕ, suc, _+_, _/_, _%_, _≤_}
 use mathlib.Core.Path.{_≡_, refl, _∙_}
-use mathlib.Core.Bool.{Bool, true, false}
+use mathlib.Core.Bool.{Bool, true, false, _||_}
 use mathlib.Core.List.{List}
 use native.Mathlib.Nat.{add-zero}
 use native.Mathlib.Omega.{arith}
@@ -10,15 +10,16 @@ use lib.Seq.{getD-set-same, getD-set-other, length-take-le}
 use lib.Dec.{leb, ltb, lit≤, lit<}
 use borrow.Author.Tests.{leb-true, ltb-true}
 use Rattle.sheet.specs.declared.State.{State}
+use Rattle.sheet.specs.declared.Progress.{Progress}
 use Rattle.sheet.specs.Width.{pick, bytesOf, wrapOf}
-use Rattle.sheet.specs.Psw.{Flag, Effect, Choice, fixedOf, flagOf, settled}
+use Rattle.sheet.specs.Psw.{Flag, Effect, Choice, nativeOf, fixedOf, flagOf, settled, inMode, Crossing, toNative, toCards, back, stored}
 use Rattle.sheet.specs.Registers.{PSW, fileOf, written}
 use Rattle.sheet.specs.Memory.{physical, next, readMem, writeMem, lostBytes}
 use Rattle.sheet.specs.Log.{ceiling, rule, keyOf, recordBytes, writeLog}
-use Rattle.sheet.specs.World.{World, world, withState, withRam, pswOf, withFile, withPsw, withHalted, recorded}
-use Rattle.sheet.specs.Act.{Act, pure, refuse, get, put, ask, copy, flags, load, store, input, output, halt}
+use Rattle.sheet.specs.World.{World, world, withState, withRam, pswOf, stateOf, markWritable, withFile, withPsw, withHalted, crossed, recorded}
+use Rattle.sheet.specs.Act.{Act, pure, refuse, get, put, ask, copy, flags, load, store, input, output, halt, cross}
 use Rattle.sheet.specs.Handler.{Access, short, through, recording, taped, inputs, outputs, Event, reads, writes, takes, gives, asks, copies, changes, Outcome, refused, done, then, ported, runBy}
-use Rattle.sheet.proofs.PswLaws.{fixed-settled}
+use Rattle.sheet.proofs.PswLaws.{fixed-settled, native-settled, fixed-mode, native-mode}
 
 -- of the world that an outcome leaves
 pub data Leaves {A : Type 0} (Q : World → Type 0) : Outcome A → Type 0 where
@@ -40,10 +41,11 @@ pub record Lent (w v : World) : Type 0 where
   pub tape-same : v .tape ≡ w .tape
   pub log-long : length (v .log) ≡ length (w .log)
 
--- what number 2 asks: fixed bits, places, count; and a state has fourteen words
+-- what number 2 asks: fixed bits, MD, places, count; and a state has fourteen words
 pub record Sound (w : World) : Type 0 where
   pub whole : length (w .state .file) ≡ 14
   pub fixed : fixedOf (pswOf (w .state)) ≡ true
+  pub mode : (nativeOf (pswOf (w .state)) || w .state .marks .writable) ≡ true
   pub tape-in : w .state .progress .tape ≤ length (w .tape)
   pub log-in : w .state .progress .log ≤ length (w .log)
   pub count-in : w .state .progress .count ≤ ceiling rule
@@ -89,6 +91,7 @@ pub record Kept (Q : World → Type 0) : Type 0 where
   pub at-record : (w : World) (m : ℕ) (b : List ℕ) → w .state .progress .tape + m ≤ length (w .tape) → w .state .progress .log + length b ≤ length (w .log) → Q w
       → Q (world (recorded (w .state) m (length b)) (w .ram) (w .rom) (w .tape) (writeLog (w .log) (w .state .progress .log) b))
   pub at-halt : (w : World) (b : Bool) → Q w → Q (withState w (withHalted (w .state) b))
+  pub at-crossing : (w : World) (c : Crossing) → Q w → Q (withState w (crossed c (w .state)))
 
 module _ (Q : World → Type 0) (k : Kept Q) where
   record-kept : (w : World) (v m : ℕ) (b : List ℕ) → w .state .progress .tape + m ≤ length (w .tape) → Q w → LeavesAccess Q (recording w v m b)
@@ -139,11 +142,58 @@ module _ (Q : World → Type 0) (k : Kept Q) where
   keeps-all (output b n v p) u w q =
       ported-kept (λ y x. then (gives b n v) (runBy u p x)) (outputs-kept b n v w q) (λ y x h. leaves-then (gives b n v) (keeps-all p u x h))
   keeps-all (halt b p) u w q = keeps-all p u (withState w (withHalted (w .state) b)) (k .at-halt w b q)
+  keeps-all (cross c p) u w q = keeps-all p u (withState w (crossed c (w .state))) (k .at-crossing w c q)
 
 -- ---- what is so kept
 
+or-true : (b : Bool) → (b || true) ≡ true
+or-true true = refl
+or-true false = refl
+
 psw-fixed : (u : Choice) (c : Flag → Effect) (s : State) → length (s .file) ≡ 14 → fixedOf (getD (set (s .file) PSW (settled u c (pswOf s))) PSW 0) ≡ true
 psw-fixed u c s e = rw (getD-set-same (s .file) PSW (settled u c (pswOf s)) 0 (rw e (lit< tt))) (fixed-settled u c (pswOf s))
+
+psw-mode : (u : Choice) (c : Flag → Effect) (s : State) → length (s .file) ≡ 14 → (nativeOf (pswOf s) || s .marks .writable) ≡ true
+    → (nativeOf (getD (set (s .file) PSW (settled u c (pswOf s))) PSW 0) || s .marks .writable) ≡ true
+psw-mode u c s e h = rw (getD-set-same (s .file) PSW (settled u c (pswOf s)) 0 (rw e (lit< tt)), native-settled u c (pswOf s)) h
+
+-- the places and the count stay
+pub crossed-progress : (c : Crossing) (s : State) → crossed c s .progress ≡ s .progress
+unfolding crossed
+crossed-progress toNative s = refl
+crossed-progress toCards s = refl
+crossed-progress back s = refl
+crossed-progress (stored b) s = go (s .marks .writable)
+  where
+    go : (t : Bool) → pick t (withPsw s (inMode b (pswOf s))) s .progress ≡ s .progress
+    go true = refl
+    go false = refl
+
+-- MD 0 is only ever left with the permission
+module _ (w : World) where
+  mode-sound : (md writable : Bool) → (md || writable) ≡ true → (s : State) → s ≡ stateOf (set (w .state .file) PSW (inMode md (pswOf (w .state)))) (markWritable (w .state .marks) writable) (w .state .progress)
+      → Sound w → Sound (withState w s)
+  mode-sound md writable h s e g =
+      let there = getD-set-same (w .state .file) PSW (inMode md (pswOf (w .state))) 0 (rw (g .whole) (lit< tt)) in
+      rw e (record {
+        whole = length-set (w .state .file) PSW _ ∙ g .whole;
+        fixed = rw there (fixed-mode md (pswOf (w .state)));
+        mode = rw (there, native-mode md (pswOf (w .state))) h;
+        tape-in = g .tape-in;
+        log-in = g .log-in;
+        count-in = g .count-in;
+      })
+
+  pub crossed-sound : (c : Crossing) → Sound w → Sound (withState w (crossed c (w .state)))
+  unfolding crossed
+  crossed-sound toNative g = mode-sound true (w .state .marks .writable) refl _ refl g
+  crossed-sound toCards g = mode-sound false true refl _ refl g
+  crossed-sound back g = mode-sound true false refl _ refl g
+  crossed-sound (stored b) g = go (w .state .marks .writable) refl
+    where
+      go : (t : Bool) → w .state .marks .writable ≡ t → Sound (withState w (pick t (withPsw (w .state) (inMode b (pswOf (w .state)))) (w .state)))
+      go true e = mode-sound b (w .state .marks .writable) (rw e (or-true b)) _ refl g
+      go false e = g
 
 -- the lent buffers and a sound state; all that is asked of the world at the start is that it is sound
 pub record Good (w v : World) : Type 0 where
@@ -155,24 +205,25 @@ good-kept w = record {
   in-tape = λ v g. g .sound .tape-in;
   at-register = λ v n x g. record {
     lent = lent-same (g .lent);
-    sound = record { whole = written-long (v .state .file) n x ∙ g .sound .whole; fixed = rw (written-psw (v .state .file) n x) (g .sound .fixed); tape-in = g .sound .tape-in; log-in = g .sound .log-in; count-in = g .sound .count-in };
+    sound = record { whole = written-long (v .state .file) n x ∙ g .sound .whole; fixed = rw (written-psw (v .state .file) n x) (g .sound .fixed); mode = rw (written-psw (v .state .file) n x) (g .sound .mode); tape-in = g .sound .tape-in; log-in = g .sound .log-in; count-in = g .sound .count-in };
   };
   at-psw = λ v u c g. record {
     lent = lent-same (g .lent);
-    sound = record { whole = length-set (v .state .file) PSW _ ∙ g .sound .whole; fixed = psw-fixed u c (v .state) (g .sound .whole); tape-in = g .sound .tape-in; log-in = g .sound .log-in; count-in = g .sound .count-in };
+    sound = record { whole = length-set (v .state .file) PSW _ ∙ g .sound .whole; fixed = psw-fixed u c (v .state) (g .sound .whole); mode = psw-mode u c (v .state) (g .sound .whole) (g .sound .mode); tape-in = g .sound .tape-in; log-in = g .sound .log-in; count-in = g .sound .count-in };
   };
   at-store = λ v b s o x g. record {
     lent = record { ram-long = writeMem-length b (v .ram) s o x ∙ g .lent .ram-long; rom-same = g .lent .rom-same; tape-same = g .lent .tape-same; log-long = g .lent .log-long };
-    sound = record { whole = g .sound .whole; fixed = g .sound .fixed; tape-in = g .sound .tape-in; log-in = g .sound .log-in; count-in = g .sound .count-in };
+    sound = record { whole = g .sound .whole; fixed = g .sound .fixed; mode = g .sound .mode; tape-in = g .sound .tape-in; log-in = g .sound .log-in; count-in = g .sound .count-in };
   };
   at-record = λ v m b h r g. record {
     lent = record { ram-long = g .lent .ram-long; rom-same = g .lent .rom-same; tape-same = g .lent .tape-same; log-long = writeLog-length (v .log) b (v .state .progress .log) r ∙ g .lent .log-long };
-    sound = record { whole = g .sound .whole; fixed = g .sound .fixed; tape-in = h; log-in = rw (writeLog-length (v .log) b (v .state .progress .log) r) r; count-in = lit≤ tt };
+    sound = record { whole = g .sound .whole; fixed = g .sound .fixed; mode = g .sound .mode; tape-in = h; log-in = rw (writeLog-length (v .log) b (v .state .progress .log) r) r; count-in = lit≤ tt };
   };
   at-halt = λ v b g. record {
     lent = lent-same (g .lent);
-    sound = record { whole = g .sound .whole; fixed = g .sound .fixed; tape-in = g .sound .tape-in; log-in = g .sound .log-in; count-in = g .sound .count-in };
+    sound = record { whole = g .sound .whole; fixed = g .sound .fixed; mode = g .sound .mode; tape-in = g .sound .tape-in; log-in = g .sound .log-in; count-in = g .sound .count-in };
   };
+  at-crossing = λ v c g. record { lent = lent-same (g .lent); sound = crossed-sound v c (g .sound) };
 }
 
 pub stays-good : {A : Type 0} (p : Act A) (u : ℕ → Choice) (w : World) → Sound w → Leaves (Good w) (runBy u p w)

@@ -8,15 +8,18 @@ use native.Mathlib.Omega.{arith}
 use lib.Dec.{ltb, lit≤}
 use lib.ListN.{length, set}
 use Rattle.sheet.specs.declared.Bus.{Bus}
+use Rattle.sheet.specs.declared.Marks.{Marks}
+use Rattle.sheet.specs.declared.Progress.{Progress}
 use Rattle.sheet.specs.Width.{pick, bytesOf, wrapOf}
-use Rattle.sheet.specs.Psw.{Flag, Effect, keeps, flagOf, settled}
+use Rattle.sheet.specs.Psw.{Flag, Effect, keeps, flagOf, settled, Crossing, inMode, toNative}
 use Rattle.sheet.specs.Registers.{PSW, File, fileOf, written}
 use Rattle.sheet.specs.Memory.{physical, next, readMem, writeMem, busCycles, lost, lostBytes}
-use Rattle.sheet.specs.Act.{Act, pure, flags, _>>=_, registers, _≔_, flag, psw, peek, poke}
+use Rattle.sheet.specs.Act.{Act, pure, flags, _>>=_, registers, _≔_, flag, psw, crossing, peek, poke}
+use Rattle.sheet.specs.World.{stateOf, crossed}
 use Rattle.sheet.specs.Handler.{nothing, _⊕_, busOf, busWith}
-use Rattle.sheet.specs.Contract.{OnFile, OnMemory}
+use Rattle.sheet.specs.Contract.{OnFile, OnMemory, OnMarks}
 use lib.ListN.{getD}
-use Rattle.sheet.proofs.Rules.{seq, seq-free, seq-last, ends-pure, ends-registers, ends-set, ends-flag, ends-psw, ends-flags, ends-peek, ends-poke}
+use Rattle.sheet.proofs.Rules.{seq, seq-free, seq-last, ends-pure, ends-registers, ends-set, ends-flag, ends-psw, ends-flags, ends-crossing, ends-peek, ends-poke}
 
 -- ---- code that is lent the registers
 
@@ -37,6 +40,11 @@ file-psw b = record { at = λ s ram rom tape log. ends-psw b }
 
 pub file-flags : (c : Flag → Effect) {f : List ℕ} {x : ℕ} → x ≡ settled keeps c (getD f PSW 0) → OnFile Unit (flags c (pure tt)) f tt (set f PSW x)
 file-flags c e = record { at = λ s ram rom tape log. ends-flags c e }
+
+-- native mode is entered whatever the permission is
+pub file-native : {f : List ℕ} {x : ℕ} → x ≡ inMode true (getD f PSW 0) → OnFile Unit (crossing toNative) f tt (set f PSW x)
+unfolding crossed
+file-native e = record { at = λ s ram rom tape log. rw e (ends-crossing toNative) }
 
 -- ---- sequences
 
@@ -99,6 +107,40 @@ memory-peek b g o v n f ram rom e q = record { most = rw q (bus-most b o); fair 
 
 pub memory-poke : (b : Bool) (g o v : ℕ) (n : Bus) (f ram rom ram′ : List ℕ) → ram′ ≡ writeMem b ram g o v → n ≡ busWith b o (lostBytes b ram g o) → OnMemory Unit (poke b g o v) f ram rom tt f ram′ n 2
 memory-poke b g o v n f ram rom ram′ e q = record { most = rw q (bus-most b o); fair = rw q (lost-fair b ram g o); at = λ s tape log. ends-poke b g o v n ram′ e q }
+
+-- ---- code that is lent the marks
+
+-- the marks stay where they are not lent
+pub on-marks : {A : Type 0} {p : Act A} {f ram rom f′ ram′ : List ℕ} {a : A} {n : Bus} {top : ℕ} (m : Marks) → OnMemory A p f ram rom a f′ ram′ n top
+    → OnMarks A p f ram rom m a f′ ram′ m n top
+on-marks {f = f} m h = record { most = h .most; fair = h .fair; at = λ q tape log. h .at (stateOf f m q) tape log }
+
+pub file-marks : {A : Type 0} {p : Act A} {f f′ ram rom : List ℕ} {a : A} {m : Marks} → OnFile A p f a f′ → OnMarks A p f ram rom m a f′ ram m nothing 0
+file-marks {ram = ram} {rom = rom} {m = m} h = on-marks m (on-memory ram rom 0 h)
+
+-- a crossing: the registers and marks that it leaves
+pub marks-crossing : (c : Crossing) {f f′ ram rom : List ℕ} {m m′ : Marks} → ((q : Progress) → crossed c (stateOf f m q) ≡ stateOf f′ m′ q)
+    → OnMarks Unit (crossing c) f ram rom m tt f′ ram m′ nothing 0
+marks-crossing c e = record { most = lit≤ tt; fair = lit≤ tt; at = λ q tape log. rw (← e q) (ends-crossing c) }
+
+-- code that leaves every mark needs none
+pub off-marks : {A : Type 0} {p : Act A} {f ram rom f′ ram′ : List ℕ} {a : A} {n : Bus} {top : ℕ} → n .cycles ≤ top → n .dropped ≤ 2 * n .cycles
+    → ((m : Marks) → OnMarks A p f ram rom m a f′ ram′ m n top) → OnMemory A p f ram rom a f′ ram′ n top
+off-marks most fair h = record { most = most; fair = fair; at = λ s tape log. h (s .marks) .at (s .progress) tape log }
+
+module _ {A B : Type 0} {p : Act A} (k : A → Act B) {f g h ram rom : List ℕ} {a : A} {b : B} {m m′ : Marks} where
+  pub marks-seq : {ram′ ram″ : List ℕ} {m″ : Marks} {n c : Bus} {t u : ℕ} → OnMarks A p f ram rom m a g ram′ m′ n t → OnMarks B (k a) g ram′ rom m′ b h ram″ m″ c u
+      → OnMarks B (p >>= k) f ram rom m b h ram″ m″ (n ⊕ c) (t + u)
+  marks-seq x y = record { most = add-le-add (x .most) (y .most); fair = (let a = x .fair in let b = y .fair in omega arith); at = λ q tape log. seq k (x .at q tape log) (y .at q tape log) }
+
+  -- the same where the first, or the rest, makes no access
+  pub marks-free : {ram′ : List ℕ} {m″ : Marks} {n : Bus} {t : ℕ} → OnMarks A p f ram rom m a g ram m′ nothing 0 → OnMarks B (k a) g ram rom m′ b h ram′ m″ n t
+      → OnMarks B (p >>= k) f ram rom m b h ram′ m″ n t
+  marks-free x y = record { most = y .most; fair = y .fair; at = λ q tape log. seq-free k (x .at q tape log) (y .at q tape log) }
+
+  pub marks-last : {ram′ : List ℕ} {m″ : Marks} {n : Bus} {t : ℕ} → OnMarks A p f ram rom m a g ram′ m′ n t → OnMarks B (k a) g ram′ rom m′ b h ram′ m″ nothing 0
+      → OnMarks B (p >>= k) f ram rom m b h ram′ m″ n t
+  marks-last x y = record { most = x .most; fair = x .fair; at = λ q tape log. seq-last k (x .at q tape log) (y .at q tape log) }
 
 -- ---- a choice that is known
 

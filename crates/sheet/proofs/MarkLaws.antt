@@ -5,16 +5,18 @@ use mathlib.Core.Bool.{Bool, true, false, not, _&&_, true≢false}
 use mathlib.Core.List.{List}
 use lib.ListN.{length}
 use Rattle.sheet.specs.declared.Marks.{Marks}
+use Rattle.sheet.specs.declared.State.{State}
 use Rattle.sheet.specs.declared.Place.the-variants.{Register, Memory}
 use Rattle.sheet.specs.declared.Transfer.the-variants.{Mov, LoadAcc, StoreAcc, ToSegment, FromSegment, LoadPointer, AhFromPsw, PswFromAh, Ldea, Trans, Xch}
-use Rattle.sheet.specs.declared.Stack.the-variants.{Push, PushByte, PushWord, PushSegment, PushPsw, PushR, Pop, PopSegment, PopPsw, PopR, Prepare, Dispose}
+use Rattle.sheet.specs.declared.Stack.the-variants.{Push, PushByte, PushWord, PushSegment, PushPsw, PushR, Pop, PopSegment, PopR, Prepare, Dispose}
 use Rattle.sheet.specs.declared.Move.the-variants.{Transfers, Stacks, Branches, Tests}
 use Rattle.sheet.specs.declared.Instr.{Instr}
-use Rattle.sheet.specs.declared.Instr.the-variants.{Computes, Moves, Multiplies, Interrupts, Blocks, Ports, Controls}
-use Rattle.sheet.specs.Psw.{Flag, Choice, flagOf}
+use Rattle.sheet.specs.declared.Instr.the-variants.{Computes, Moves, Multiplies, Interrupts, Blocks, Ports, Controls, Modes, Cards}
+use Rattle.sheet.specs.Width.{pick}
+use Rattle.sheet.specs.Psw.{Flag, Choice, flagOf, Crossing, toNative, toCards, back, stored}
 use Rattle.sheet.specs.Registers.{File, fileOf, written}
 use Rattle.sheet.specs.Memory.{readMem}
-use Rattle.sheet.specs.World.{World, withState, withFile, pswOf}
+use Rattle.sheet.specs.World.{World, withState, withFile, withMode, crossed, pswOf}
 use Rattle.sheet.specs.Act as act
 use Rattle.sheet.specs.Act.{Act}
 use Rattle.sheet.specs.Operand.{regValue, locate, fetch, valueAt}
@@ -28,6 +30,17 @@ use Rattle.sheet.proofs.Lent.{Leaves, leaves, leaves-then, Kept, Good, 
 use Rattle.sheet.proofs.StepLaws.{Stepped, begins, Interrupted, enters, sound-is, starting-sound}
 
 -- ---- no tree touches the mark of a segment load
+
+crossed-loaded : (c : Crossing) (s : State) → crossed c s .marks .loaded ≡ s .marks .loaded
+unfolding crossed
+crossed-loaded toNative s = refl
+crossed-loaded toCards s = refl
+crossed-loaded back s = refl
+crossed-loaded (stored b) s = go (s .marks .writable)
+  where
+    go : (t : Bool) → pick t (withMode s b) s .marks .loaded ≡ s .marks .loaded
+    go true = refl
+    go false = refl
 
 record MarkStays (w : World) (b : Bool) (v : World) : Type 0 where
   good : Good w v
@@ -43,6 +56,7 @@ mark-kept w b =
       at-store = λ v c s o x m. record { good = k .at-store v c s o x (m .good); stays = m .stays };
       at-record = λ v n l h r m. record { good = k .at-record v n l h r (m .good); stays = m .stays };
       at-halt = λ v h m. record { good = k .at-halt v h (m .good); stays = m .stays };
+      at-crossing = λ v c m. record { good = k .at-crossing v c (m .good); stays = crossed-loaded c (v .state) ∙ m .stays };
     }
 
 mark-of : {w v : World} {b : Bool} {t : List Event} → Leaves {A = Unit {0}} (MarkStays w b) (done tt v t) → v .state .marks .loaded ≡ b
@@ -108,7 +122,6 @@ load-calm (Moves (Stacks PushPsw)) size e = absurd (true≢false (sym e))
 load-calm (Moves (Stacks PushR)) size e = absurd (true≢false (sym e))
 load-calm (Moves (Stacks (Pop to))) size e = absurd (true≢false (sym e))
 load-calm (Moves (Stacks (PopSegment seg))) size e = calm-ask (λ b. calm-get (λ r. calm-put (calm-get (λ r. calm-load (λ v. calm-put (calm-put (calm-last b)))))))
-load-calm (Moves (Stacks PopPsw)) size e = absurd (true≢false (sym e))
 load-calm (Moves (Stacks PopR)) size e = absurd (true≢false (sym e))
 load-calm (Moves (Stacks (Prepare size level))) n e = absurd (true≢false (sym e))
 load-calm (Moves (Stacks Dispose)) size e = absurd (true≢false (sym e))
@@ -119,6 +132,8 @@ load-calm (Interrupts i) size e = absurd (true≢false (sym e))
 load-calm (Blocks k b seg q) size e = absurd (true≢false (sym e))
 load-calm (Ports i) size e = absurd (true≢false (sym e))
 load-calm (Controls i) size e = absurd (true≢false (sym e))
+load-calm (Modes i) size e = absurd (true≢false (sym e))
+load-calm (Cards i) size e = absurd (true≢false (sym e))
 
 -- the single-step trap does not follow the load, whatever BRK was
 pub load-untraced : (i : Instr) (traced trapped : Bool) → loadsSegment i ≡ true → singleStep ((traced && not (loadsSegment i)) && not trapped) ≡ act.pure tt

@@ -10,9 +10,10 @@ use Rattle.sheet.specs.Psw.{Choice, flagOf, settled}
 use Rattle.sheet.specs.Registers.{fileOf, written}
 use Rattle.sheet.specs.Memory.{readMem, writeMem, lostBytes}
 use Rattle.sheet.specs.Log.{rule, keyOf, recordBytes, writeLog}
-use Rattle.sheet.specs.World.{World, world, withState, withRam, pswOf, withFile, withPsw, withHalted, recorded}
-use Rattle.sheet.specs.Act.{Act, pure, refuse, get, put, ask, copy, flags, load, store, input, output, halt}
+use Rattle.sheet.specs.World.{World, world, withState, withRam, pswOf, withFile, withPsw, withHalted, crossed, recorded}
+use Rattle.sheet.specs.Act.{Act, pure, refuse, get, put, ask, copy, flags, load, store, input, output, halt, cross}
 use Rattle.sheet.specs.Handler.{Access, short, through, recording, taped, inputs, outputs, Event, reads, writes, takes, gives, asks, copies, changes, Outcome, refused, done, then, ported, runBy}
+use Rattle.sheet.proofs.Lent.{crossed-progress}
 
 -- what events can change
 pub record Track : Type 0 where
@@ -105,3 +106,6 @@ replays-all (store b g o v p) u w = then-replays (writes b g o v (lostBytes b (w
 replays-all (input b n k) u w = ported-replays (λ v. takes b n v) (λ v w′. runBy u (k v) w′) (inputs-through b n w) (λ v w′. replays-all (k v) u w′)
 replays-all (output b n v p) u w = ported-replays (λ x. gives b n v) (λ x w′. runBy u p w′) (outputs-through b n v w) (λ x w′. replays-all p u w′)
 replays-all (halt b p) u w = replays-all p u (withState w (withHalted (w .state) b))
+replays-all (cross c p) u w =
+    subst (λ q. Replays (record { ram = w .ram; log = w .log; at = q .log; tape = q .tape; count = q .count }) (runBy u p (withState w (crossed c (w .state)))))
+    (crossed-progress c (w .state)) (replays-all p u (withState w (crossed c (w .state))))

@@ -1,6 +1,6 @@
 -- What comes of a tree rests only on the bytes that it reads, and RAM keeps each byte that it does not write.
 use Prim.Native.Nat.{ℕ, suc, _+_, _-_, _/_, _%_, _≤_, _<_}
-use mathlib.Core.Path.{_≡_, refl, sym, subst, _∙_}
+use mathlib.Core.Path.{_≡_, refl, ap, sym, subst, _∙_}
 use mathlib.Core.Bool.{Bool, true, false}
 use mathlib.Core.List.{List, _++_}
 use native.Mathlib.Decide.{ℕ-discrete}
@@ -15,11 +15,11 @@ use Rattle.sheet.specs.Psw.{Choice, flagOf, settled}
 use Rattle.sheet.specs.Registers.{fileOf, written}
 use Rattle.sheet.specs.Memory.{physical, next, byteAt, readMem, writeMem, lost, lostBytes}
 use Rattle.sheet.specs.Log.{rule, keyOf, recordBytes, writeLog}
-use Rattle.sheet.specs.World.{World, world, withState, withRam, pswOf, withFile, withPsw, withHalted, recorded}
-use Rattle.sheet.specs.Act.{Act, pure, refuse, get, put, ask, copy, flags, load, store, input, output, halt}
+use Rattle.sheet.specs.World.{World, world, withState, withRam, pswOf, withFile, withPsw, withHalted, crossed, recorded}
+use Rattle.sheet.specs.Act.{Act, pure, refuse, get, put, ask, copy, flags, load, store, input, output, halt, cross}
 use Rattle.sheet.specs.Handler.{Access, short, through, recording, taped, inputs, outputs, Event, reads, writes, takes, gives, asks, copies, changes, Outcome, refused, done, then, ported, runBy, happened}
 use Rattle.sheet.proofs.Reach.{Covers, Sees, Within, Misses, Spares}
-use Rattle.sheet.proofs.Lent.{Leaves, none-left, leaves, LeavesAccess, none-port, leaves-port, leaves-then, writeMem-length, writeLog-length}
+use Rattle.sheet.proofs.Lent.{Leaves, none-left, leaves, LeavesAccess, none-port, leaves-port, leaves-then, writeMem-length, writeLog-length, crossed-progress}
 
 -- the bytes that worlds may differ in: everything that is lent but the tape
 pub record Bytes : Type 0 where
@@ -212,6 +212,7 @@ module _ (P : ℕ → Type 0) (start : ℕ) (tape : List ℕ) where
       ported-same (λ x w. then (gives b n v) (runBy u p w)) (outputs-alike b n v s m m′ l) r
       (λ x t q q′ l′ r′. same-then (gives b n v) (rests p u t q q′ (within-then (gives b n v) (runBy u p (from t tape q)) r′ .1) l′))
   rests (halt b p) u s m m′ r l = rests p u (withHalted s b) m m′ r (other refl l)
+  rests (cross c p) u s m m′ r l = rests p u (crossed c s) m m′ r (other (ap (λ q. q .log) (crossed-progress c s)) l)
 
 -- ---- bytes that are not written stay
 
@@ -287,3 +288,4 @@ module _ (a x : ℕ) where
       ported-hold (λ y w′. then (gives b n v) (runBy u p w′)) (outputs-hold b n v w h) s
       (λ y w′ h′ s′. leaves-then (gives b n v) (spared p u w′ (spares-then (gives b n v) (runBy u p w′) s′ .1) h′))
   spared (halt b p) u w s h = spared p u (withState w (withHalted (w .state) b)) s h
+  spared (cross c p) u w s h = spared p u (withState w (crossed c (w .state))) s h

@@ -6,11 +6,11 @@ use mathlib.Core.Bool.{Bool, true, false}
 use mathlib.Core.List.{List}
 use Rattle.sheet.specs.declared.Bus.{Bus}
 use Rattle.sheet.specs.Width.{pick, wrapOf}
-use Rattle.sheet.specs.Psw.{Flag, Effect, keeps, flagOf, settled}
+use Rattle.sheet.specs.Psw.{Flag, Effect, keeps, flagOf, settled, Crossing}
 use Rattle.sheet.specs.Registers.{File, fileOf, written}
 use Rattle.sheet.specs.Memory.{readMem, writeMem, lostBytes}
-use Rattle.sheet.specs.World.{World, withState, withRam, pswOf, withFile, withPsw, withHalted}
-use Rattle.sheet.specs.Act.{Act, pure, refuse, get, put, ask, copy, flags, load, store, input, output, halt, _>>=_, registers, _≔_, flag, psw, peek, poke, inp, out, halted}
+use Rattle.sheet.specs.World.{World, withState, withRam, pswOf, withFile, withPsw, withHalted, crossed}
+use Rattle.sheet.specs.Act.{Act, pure, refuse, get, put, ask, copy, flags, load, store, input, output, halt, cross, _>>=_, registers, _≔_, flag, psw, peek, poke, inp, out, halted, crossing}
 use Rattle.sheet.specs.Handler.{Access, short, through, inputs, outputs, Event, reads, writes, takes, gives, asks, copies, changes, Outcome, refused, done, then, ported, runBy, run, nothing, _⊕_, busOf, busWith, cost, tally}
 use Rattle.sheet.specs.Contract.{Seen, stops, ends, seen, exec, Ends, Stops}
 
@@ -88,6 +88,7 @@ exec-bind (input b n k) f w =
 exec-bind (output b n v p) f w =
     port-bind (outputs b n v w) (λ x. gives b n v) (λ x u. run p u) (λ x u. run (p >>= f) u) (λ a x. exec (f a) x) (λ x u. exec-bind p f u)
 exec-bind (halt b p) f w = exec-bind p f (withState w (withHalted (w .state) b))
+exec-bind (cross c p) f w = exec-bind p f (withState w (crossed c (w .state)))
 
 -- ---- sequences
 
@@ -170,6 +171,10 @@ module _ {w : World} where
   pub ends-halted : (b : Bool) → Ends Unit (halted b) w tt (withState w (withHalted (w .state) b)) nothing
   unfolding exec run runBy tally
   ends-halted b = record { is = refl }
+
+  pub ends-crossing : (c : Crossing) → Ends Unit (crossing c) w tt (withState w (crossed c (w .state))) nothing
+  unfolding exec run runBy tally
+  ends-crossing c = record { is = refl }
 
   pub ends-peek : (b : Bool) (g o v : ℕ) (n : Bus) → v ≡ readMem b (w .ram) (w .rom) g o → n ≡ busOf b o → Ends ℕ (peek b g o) w v w n
   unfolding exec run runBy tally

@@ -6,16 +6,16 @@ use mathlib.Core.List.{List, [], _∷_, _++_}
 use lib.ListN.{replicate}
 use lib.Count.{ones}
 use Rattle.sheet.specs.Width.{wrapOf, signOf, evenOf, extend, signedOf, bits32}
-use Rattle.sheet.specs.Psw.{settled}
+use Rattle.sheet.specs.Psw.{settled, inMode}
 use Rattle.sheet.specs.Registers.{readReg, regWord}
 use Rattle.sheet.specs.Memory.{physical, byteAt, readMem, writeMem, busCycles, lost, lostBytes}
 use Rattle.sheet.specs.Log.{groupsOf}
 use Rattle.sheet.specs.Act as act
 use Rattle.sheet.specs.Act.{loop}
-use Rattle.sheet.specs.World.{World, world, marksOf}
+use Rattle.sheet.specs.World.{World, world, marksOf, crossed}
 use Rattle.sheet.specs.Handler.{runBy, tally}
 use Rattle.sheet.specs.Operand.{formAt, regValue, setReg, locate, fetch, deposit, valueAt, sourceValue, amountOf}
-use Rattle.sheet.specs.Traps.{push, pushPsw, pushPsPc, jumpFar, save, trap, untrapped}
+use Rattle.sheet.specs.Traps.{push, pushPsw, pushPsPc, jumpFar, save, vectored, entered, trap, untrapped}
 use Rattle.sheet.specs.Arithmetic.{resulting, sum, finish, operate, conclude, two, calculate}
 use Rattle.sheet.specs.Multiply.{stands, bitsOf, quoted, signedQuotient, dividend, setQuotient, divided, div, multiply}
 use Rattle.sheet.specs.Shift.{comesIn, toLeft, onePlace, manyPlaces, shifted, turned, shiftMany, carryIn, shiftBy, shift}
@@ -36,7 +36,7 @@ use Rattle.sheet.specs.Contract.{report}
 
 -- AW CW DW BW SP BP IX IY DS1 PS SS DS0 PC PSW, a count of steps, and RAM; no ROM, tape or log
 abbrev machine : List ℕ → ℕ → List ℕ → World
-machine file count ram = world (record { file = file; marks = marksOf false false; progress = record { tape = 0; log = 0; count = count } }) ram [] [] []
+machine file count ram = world (record { file = file; marks = marksOf false false false; progress = record { tape = 0; log = 0; count = count } }) ram [] [] []
 
 -- a step is accepted and leaves this, with so many bus cycles
 abbrev Leaves : World → World → ℕ → Type 0
@@ -98,7 +98,7 @@ pub record SmallTable : Type 0 where
   pub number : groupsOf 3 300 ≡ 0xac ∷ 0x02 ∷ []
 
 pub small-table : SmallTable
-unfolding ones wrapOf signOf evenOf extend signedOf bits32 settled readReg regWord byteAt readMem writeMem busCycles lost lostBytes groupsOf act._>>=_ loop runBy tally formAt regValue setReg locate fetch deposit valueAt sourceValue amountOf push pushPsw pushPsPc jumpFar save trap untrapped resulting sum finish operate conclude two stands bitsOf quoted signedQuotient dividend setQuotient divided div comesIn toLeft onePlace manyPlaces shifted turned shiftMany carryIn shiftBy shift lowAdjusted highAdjusted adjusted plain digits packedResult adj4 link chained string replaced lengthOf advance insertInto firstPart secondPart Rattle.sheet.specs.Fields.ins pushRegister pushPlace stack calculate multiply convert decimal field computing moving operation execute reading._>>=_ scan word immediate allow prefixOf formed address inMemory place lookUp fieldGiven withAcc withPlace withShift shiftGroup groupF6 afterPrefix prefixed instruction instructionIn fits sound singleStep loadsSegment movesIn movIn popIn stepping starting decoded awake stepBy step stepReport
+unfolding ones wrapOf signOf evenOf extend signedOf bits32 settled readReg regWord byteAt readMem writeMem busCycles lost lostBytes groupsOf act._>>=_ loop runBy tally formAt regValue setReg locate fetch deposit valueAt sourceValue amountOf push pushPsw pushPsPc jumpFar save vectored entered crossed inMode trap untrapped resulting sum finish operate conclude two stands bitsOf quoted signedQuotient dividend setQuotient divided div comesIn toLeft onePlace manyPlaces shifted turned shiftMany carryIn shiftBy shift lowAdjusted highAdjusted adjusted plain digits packedResult adj4 link chained string replaced lengthOf advance insertInto firstPart secondPart Rattle.sheet.specs.Fields.ins pushRegister pushPlace stack calculate multiply convert decimal field computing moving operation execute reading._>>=_ scan word immediate allow prefixOf formed address inMemory place lookUp fieldGiven withAcc withPlace withShift shiftGroup groupF6 afterPrefix prefixed instruction instructionIn fits sound singleStep loadsSegment movesIn movIn popIn stepping starting decoded awake stepBy step stepReport
 small-table = record {
   adj4a = refl;
   sub4s = refl;

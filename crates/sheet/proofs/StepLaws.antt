@@ -1,7 +1,7 @@
 -- What an accepted call says of the world that it began in, and what it leaves.
 use Prim.Native.Nat.{ℕ, _+_}
 use mathlib.Core.Path.{_≡_, refl}
-use mathlib.Core.Bool.{Bool, true, false, not, _&&_, and-eq-true-iff}
+use mathlib.Core.Bool.{Bool, true, false, not, _&&_, _||_, and-eq-true-iff}
 use mathlib.Core.List.{List}
 use native.Mathlib.Nat.{min-le-right}
 use native.Mathlib.Omega.{arith}
@@ -10,12 +10,12 @@ use lib.Dec.{leb}
 use borrow.Author.Tests.{leb-true}
 use Rattle.sheet.specs.declared.Instr.{Instr}
 use Rattle.sheet.specs.Width.{pick}
-use Rattle.sheet.specs.Psw.{IE, Choice, flagOf, fixedOf}
+use Rattle.sheet.specs.Psw.{IE, Choice, flagOf, nativeOf, fixedOf}
 use Rattle.sheet.specs.Log.{ceiling, rule}
 use Rattle.sheet.specs.World.{World, pswOf}
 use Rattle.sheet.specs.Handler.{Event, Outcome, refused, done, runBy}
 use Rattle.sheet.specs.Reading.{Read, known, unknown}
-use Rattle.sheet.specs.Step.{fits, placesGood, sound, refusal, stepping, starting, decoded, awake, stepBy, interrupting, interruptBy, instructionIn}
+use Rattle.sheet.specs.Step.{fits, pswGood, placesGood, sound, refusal, stepping, starting, decoded, awake, stepBy, interrupting, interruptBy, instructionIn}
 use Rattle.sheet.proofs.Lent.{Leaves, leaves, Sound, Good, stays-good}
 
 -- an outcome that is refused is not done
@@ -71,15 +71,16 @@ enters u vector maskable w v t e = go (fits w) (sound w) (w .state .marks .loade
 pub sound-is : (w : World) → length (w .state .file) ≡ 14 → sound w ≡ true → Sound w
 unfolding sound
 sound-is w n e =
-    let (a, e₁) = and-eq-true-iff (fixedOf (pswOf (w .state))) _ .0 e in
+    let (psw, e₁) = and-eq-true-iff (pswGood (w .state)) _ .0 e in
+    let (a, md) = and-eq-true-iff (fixedOf (pswOf (w .state))) _ .0 psw in
     let (g, m) = and-eq-true-iff (placesGood (w .state) (w .tape) (w .log)) _ .0 e₁ in
     let (b, e₂) = and-eq-true-iff (leb (w .state .progress .tape) (length (w .tape))) _ .0 g in
     let (c, d) = and-eq-true-iff (leb (w .state .progress .log) (length (w .log))) _ .0 e₂ in
-    record { whole = n; fixed = a; tape-in = leb-true _ _ b; log-in = leb-true _ _ c; count-in = leb-true _ _ d }
+    record { whole = n; fixed = a; mode = md; tape-in = leb-true _ _ b; log-in = leb-true _ _ c; count-in = leb-true _ _ d }
 
 pub starting-sound : (i : Instr) (w : World) → Sound w → Sound (starting i w)
 unfolding starting
-starting-sound i w s = record { whole = s .whole; fixed = s .fixed; tape-in = s .tape-in; log-in = s .log-in; count-in = min-le-right (w .state .progress .count + 1) (ceiling rule) }
+starting-sound i w s = record { whole = s .whole; fixed = s .fixed; mode = s .mode; tape-in = s .tape-in; log-in = s .log-in; count-in = min-le-right (w .state .progress .count + 1) (ceiling rule) }
 
 good-of : {w v : World} {t : List Event} → Leaves {A = Unit {0}} (Good w) (done tt v t) → Good w v
 good-of (leaves g) = g

@@ -1,9 +1,9 @@
 -- An instruction's operation as a tree of acts, written like the sheet's operation column.
--- 01:66
+-- 01:66; 02 m
 use Prim.Native.Nat.{ℕ, zero, suc, _+_}
 use mathlib.Core.Bool.{Bool}
 use Rattle.sheet.specs.Registers.{File}
-use Rattle.sheet.specs.Psw.{Flag, Effect, Column, column, only, entering, restored}
+use Rattle.sheet.specs.Psw.{Flag, Effect, Column, column, only, entering, restored, Crossing}
 
 infixl 55 _>>=_
 infixl 55 _>>_
@@ -25,6 +25,8 @@ pub data Act (A : Type 0) : Type 0 where
   input : Bool → (port : ℕ) → (ℕ → Act A) → Act A
   output : Bool → (port v : ℕ) → Act A → Act A
   halt : Bool → Act A → Act A
+  -- MD and the permission to write it
+  cross : Crossing → Act A → Act A
 
 unfoldable pub _>>=_ : {A B : Type 0} → Act A → (A → Act B) → Act B
 pure a >>= f = f a
@@ -39,6 +41,7 @@ store w g o v p >>= f = store w g o v (p >>= f)
 input w n k >>= f = input w n (λ v. k v >>= f)
 output w n v p >>= f = output w n v (p >>= f)
 halt b p >>= f = halt b (p >>= f)
+cross c p >>= f = cross c (p >>= f)
 
 abbrev pub _>>_ : {A B : Type 0} → Act A → Act B → Act B
 p >> q = p >>= (λ _. q)
@@ -71,7 +74,7 @@ setFlag f b = flags (only f b) (pure tt)
 abbrev pub clearIeBrk : Act Unit
 clearIeBrk = flags entering (pure tt)
 
--- POP PSW and RETI
+-- the flags of a stored PSW
 abbrev pub restore : ℕ → Act Unit
 restore x = flags (restored x) (pure tt)
 
@@ -89,6 +92,9 @@ out w n v = output w n v (pure tt)
 
 abbrev pub halted : Bool → Act Unit
 halted b = halt b (pure tt)
+
+abbrev pub crossing : Crossing → Act Unit
+crossing c = cross c (pure tt)
 
 -- ---- the body at i, i + 1, .., k times; each hands on to the next
 unfoldable pub loop : {A : Type 0} → (ℕ → A → Act A) → ℕ → ℕ → A → Act A

@@ -1,6 +1,6 @@
 -- Decimal adjustment: ADJBA, ADJ4A, ADJBS, ADJ4S.
 -- 001:1375-1378; 000:1066-1069; 01:57
-use mathlib.Core.Bool.{Bool, true, false, _||_}
+use mathlib.Core.Bool.{Bool, false, _||_}
 use Prim.Native.Nat.{ℕ, _+_, _*_, _/_, _%_}
 use lib.Dec.{ltb}
 use Rattle.sheet.specs.declared.Spot.the-variants.{InRegister}

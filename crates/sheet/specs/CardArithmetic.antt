@@ -16,7 +16,7 @@ use Rattle.sheet.specs.declared.Way.the-variants.{Addition}
 use Rattle.sheet.specs.declared.cards.CardArithmetic.{CardArithmetic}
 use Rattle.sheet.specs.declared.cards.CardArithmetic.the-variants.{Two, Inr, Dcr, Inx, Dcx, Dad, Rotate, Daa, Cma}
 use Rattle.sheet.specs.Width.{add16, sub16}
-use Rattle.sheet.specs.Psw.{AC, CY, at, Effect, blank, becomes, columns}
+use Rattle.sheet.specs.Psw.{AC, CY, at, blank, becomes, columns}
 use Rattle.sheet.specs.Registers.{BW, AL}
 use Rattle.sheet.specs.Act.{Act, pure, _>>=_, _>>_, flag, affect, setFlag}
 use Rattle.sheet.specs.Operand.{locate, fetch, regValue, setReg, sourceValue}

@@ -22,6 +22,8 @@ use Rattle.sheet.specs.declared.cards.CardStack.the-variants.{Push, Push
 use Rattle.sheet.specs.declared.cards.CardMode.the-variants.{Calln, Retem}
 use Rattle.sheet.specs.declared.cards.Card.{Card}
 use Rattle.sheet.specs.declared.cards.Card.the-variants.{Transfers, Ports, Controls, Points, Calculates, Branches, Stacks, Modes}
+use Rattle.sheet.specs.declared.Instr.{Instr}
+use Rattle.sheet.specs.declared.Instr.the-variants.{Cards}
 use Rattle.sheet.specs.Width.{pick, odd}
 use Rattle.sheet.specs.Registers.{CW, DW, BW, BP, inDs0}
 use Rattle.sheet.specs.Reading.{Reading, got, no, _>>=_, byte, word}
@@ -190,3 +192,8 @@ unfoldable pub card : Reading Card
 card = do
   b ← byte
   cardOf b
+
+unfoldable pub cardInstruction : Reading Instr
+cardInstruction = do
+  c ← card
+  got (Cards c)

@@ -3,12 +3,14 @@ use Prim.Native.Nat.{ℕ, _*_, _≤_}
 use mathlib.Core.Path.{_≡_}
 use mathlib.Core.List.{List}
 use Rattle.sheet.specs.declared.State.{State}
+use Rattle.sheet.specs.declared.Marks.{Marks}
+use Rattle.sheet.specs.declared.Progress.{Progress}
 use Rattle.sheet.specs.declared.Bus.{Bus}
 use Rattle.sheet.specs.declared.Flagged.{Flagged}
 use Rattle.sheet.specs.Psw.{keeps, column, settled}
 use Rattle.sheet.specs.Reading.{Reading, known, unknown, scan}
 use Rattle.sheet.specs.Act.{Act}
-use Rattle.sheet.specs.World.{World, world, withFile}
+use Rattle.sheet.specs.World.{World, world, stateOf, withFile}
 use Rattle.sheet.specs.Arithmetic.{Result}
 use Rattle.sheet.specs.Handler.{Outcome, refused, done, run, nothing, tally}
 
@@ -51,6 +53,13 @@ pub record OnMemory (A : Type 0) (p : Act A) (f ram rom : List ℕ) (a : A) (f�
   pub fair : n .dropped ≤ 2 * n .cycles
   pub at : (s : State) (tape log : List ℕ)
       → Ends A p (world (withFile s f) ram rom tape log) a (world (withFile s f′) ram′ rom tape log) n
+
+-- code that is lent the marks as well
+pub record OnMarks (A : Type 0) (p : Act A) (f ram rom : List ℕ) (m : Marks) (a : A) (f′ ram′ : List ℕ) (m′ : Marks) (n : Bus) (top : ℕ) : Type 0 where
+  pub most : n .cycles ≤ top
+  pub fair : n .dropped ≤ 2 * n .cycles
+  pub at : (q : Progress) (tape log : List ℕ)
+      → Ends A p (world (stateOf f m q) ram rom tape log) a (world (stateOf f′ m′ q) ram′ rom tape log) n
 
 -- a result, and the PSW that its column makes of an old one
 unfoldable pub flagged : Result → ℕ → Flagged

@@ -43,7 +43,7 @@ cvtwl = do
   r ← registers
   DW ≔ pick (signOf true (r AW)) 65535 0
 
--- with ADJ.. of the chapter before
+-- with ADJ.. of Adjust
 unfoldable pub convert : Convert → Act Unit
 convert Adjba = adjb Addition
 convert Adj4a = adj4 Addition

@@ -1,6 +1,6 @@
 -- Instruction bytes: prefixes, the mod-reg-mem byte, and how a table of codes is read.
 -- 001:1045-1191; 01:18, 23
-use Prim.Native.Nat.{ℕ, _+_, _-_, _/_, _%_}
+use Prim.Native.Nat.{ℕ, _+_, _/_, _%_}
 use mathlib.Core.Bool.{Bool, _&&_}
 use mathlib.Core.List.{List, [], _∷_}
 use mathlib.Core.Option.{Option, none, some}

@@ -1,5 +1,5 @@
 -- Every instruction's operation. Each hands on whether it took a trap itself.
--- 001:1233-1659, a row each
+-- 001:1233-1659, a row each; CARDS 1-64
 use Prim.Native.Nat.{ℕ}
 use mathlib.Core.Bool.{Bool}
 use Rattle.sheet.specs.declared.Compute.{Compute}
@@ -7,7 +7,9 @@ use Rattle.sheet.specs.declared.Compute.the-variants.{Calculates, Conver
 use Rattle.sheet.specs.declared.Move.{Move}
 use Rattle.sheet.specs.declared.Move.the-variants.{Transfers, Stacks, Branches, Tests}
 use Rattle.sheet.specs.declared.Instr.{Instr}
-use Rattle.sheet.specs.declared.Instr.the-variants.{Computes, Moves, Multiplies, Interrupts, Blocks, Ports, Controls}
+use Rattle.sheet.specs.declared.Instr.the-variants.{Computes, Moves, Multiplies, Interrupts, Blocks, Ports, Controls, Modes, Cards}
+use Rattle.sheet.specs.declared.cards.Card.{Card}
+use Rattle.sheet.specs.declared.cards.Card.the-variants as cards
 use Rattle.sheet.specs.Width.{add16}
 use Rattle.sheet.specs.Registers.{PC}
 use Rattle.sheet.specs.Act.{Act, _>>=_, _>>_, registers, _≔_}
@@ -26,6 +28,11 @@ use Rattle.sheet.specs.Interrupts.{interrupts}
 use Rattle.sheet.specs.Block.{block}
 use Rattle.sheet.specs.Ports.{ports}
 use Rattle.sheet.specs.Control.{control}
+use Rattle.sheet.specs.Mode.{modes, cardModes}
+use Rattle.sheet.specs.CardPoint.{point}
+use Rattle.sheet.specs.CardArithmetic.{cardCalculate}
+use Rattle.sheet.specs.CardStack.{cardStack}
+use Rattle.sheet.specs.CardBranch.{cardBranch}
 
 unfoldable pub computing : Compute → Act Unit
 computing (Calculates i) = calculate i
@@ -41,6 +48,17 @@ moving (Stacks i) = stack i
 moving (Branches i) = branch i
 moving (Tests i) = conditional i
 
+-- the 8080 mode's: the first three groups are native
+unfoldable pub carding : Card → Act Unit
+carding (cards.Transfers i) = transfer i
+carding (cards.Ports i) = ports i
+carding (cards.Controls i) = control i
+carding (cards.Points i) = point i
+carding (cards.Calculates i) = cardCalculate i
+carding (cards.Branches i) = cardBranch i
+carding (cards.Stacks i) = cardStack i
+carding (cards.Modes i) = cardModes i
+
 -- an instruction that began at offset `start`; PC stands on the next one
 unfoldable pub operation : Instr → ℕ → Act Bool
 operation (Computes i) start = untrapped (computing i)
@@ -50,6 +68,8 @@ operation (Interrupts i) start = interrupts i
 operation (Blocks k w seg q) start = untrapped (block k w seg q start)
 operation (Ports i) start = untrapped (ports i)
 operation (Controls i) start = untrapped (control i)
+operation (Modes i) start = untrapped (modes i)
+operation (Cards i) start = untrapped (carding i)
 
 -- an instruction of n bytes: PC moves past it first
 unfoldable pub execute : Instr → ℕ → Act Bool

@@ -24,10 +24,11 @@ use Rattle.sheet.specs.declared.Shift.{Shift}
 use Rattle.sheet.specs.declared.Shift.the-variants.{Rol, Ror, Rolc, Rorc, Shl, Shr, Shra}
 use Rattle.sheet.specs.declared.Places.{Places}
 use Rattle.sheet.specs.declared.Places.the-variants.{One, Counted}
-use Rattle.sheet.specs.declared.Stack.the-variants.{Push, PushByte, PushWord, PushSegment, PushPsw, PushR, Pop, PopSegment, PopPsw, PopR, Prepare, Dispose}
+use Rattle.sheet.specs.declared.Stack.the-variants.{Push, PushByte, PushWord, PushSegment, PushPsw, PushR, Pop, PopSegment, PopR, Prepare, Dispose}
 use Rattle.sheet.specs.declared.Branch.the-variants.{CallNear, CallTo, CallFar, CallFarAt, Ret, RetPop, RetFar, RetFarPop, BrNear, BrShort, BrTo, BrFar, BrFarAt}
 use Rattle.sheet.specs.declared.Conditional.the-variants.{If, Dbnzne, Dbnze, Dbnz, Bcwz}
-use Rattle.sheet.specs.declared.Interrupt.the-variants.{Brk3, Brk, Brkv, Reti, Chkind}
+use Rattle.sheet.specs.declared.Interrupt.the-variants.{Brk3, Brk, Brkv, Chkind}
+use Rattle.sheet.specs.declared.Mode.the-variants.{PopPsw, Reti}
 use Rattle.sheet.specs.declared.Primitive.{Primitive}
 use Rattle.sheet.specs.declared.Primitive.the-variants.{Movbk, Cmpbk, Cmpm, Ldm, Stm, Inm, Outm}
 use Rattle.sheet.specs.declared.Port.the-variants.{InDw, Numbered}
@@ -35,7 +36,7 @@ use Rattle.sheet.specs.declared.Io.the-variants.{In, Out}
 use Rattle.sheet.specs.declared.Control.the-variants.{Nop, Halt, Di, Ei, ClrCy, SetCy, NotCy, ClrDir, SetDir}
 use Rattle.sheet.specs.declared.Prefixes.{Prefixes}
 use Rattle.sheet.specs.declared.Instr.{Instr}
-use Rattle.sheet.specs.declared.Instr.the-variants.{Multiplies, Interrupts, Blocks, Ports, Controls}
+use Rattle.sheet.specs.declared.Instr.the-variants.{Multiplies, Interrupts, Blocks, Ports, Controls, Modes}
 use Rattle.sheet.specs.Groups.{Transfers, Calculates, Converts, Shifts, Stacks, Branches, Tests}
 use Rattle.sheet.specs.Width.{pick}
 use Rattle.sheet.specs.Registers.{AW, inDs1, inPs, inSs, inDs0}
@@ -277,7 +278,7 @@ bytes80 p =
     ∷ row 0x99 1 (converts Cvtwl)  -- CVTWL 000:1074
     ∷ row 0x9a 1 (λ b. withFar (λ ps pc. Branches (CallFar ps pc)))  -- CALL far-proc 001:1567
     ∷ row 0x9c 1 (λ b. got (Stacks PushPsw))  -- PUSH PSW 000:1257
-    ∷ row 0x9d 1 (λ b. got (Stacks PopPsw))  -- POP PSW 000:1264
+    ∷ row 0x9d 1 (λ b. got (Modes PopPsw))  -- POP PSW 000:1264
     ∷ row 0x9e 1 (λ b. got (Transfers PswFromAh))  -- MOV PSW,AH 000:931
     ∷ row 0x9f 1 (λ b. got (Transfers AhFromPsw))  -- MOV AH,PSW 000:930
     ∷ row 0xa0 2 (λ b. withWord (λ offset. Transfers (LoadAcc (W b) (direct p offset))))  -- MOV acc,dmem 001:1240
@@ -313,7 +314,7 @@ bytesC0 p =
     ∷ row 0xcc 1 (λ b. got (Interrupts Brk3))  -- BRK 3 001:1634
     ∷ row 0xcd 1 (λ b. withByte (λ v. Interrupts (Brk v)))  -- BRK imm8 000:1314
     ∷ row 0xce 1 (λ b. got (Interrupts Brkv))  -- BRKV 001:1636
-    ∷ row 0xcf 1 (λ b. got (Interrupts Reti))  -- RETI 000:1316
+    ∷ row 0xcf 1 (λ b. got (Modes Reti))  -- RETI 000:1316
     ∷ row 0xd0 2 (shiftGroup p (got One))  -- shifts by 1 001:1494-1495 and their like
     ∷ row 0xd2 2 (shiftGroup p (got (Counted InCl)))  -- shifts by CL 001:1496-1497 and their like
     ∷ row 0xd4 1 (λ b. afterTen Cvtbd)  -- CVTBD 000:1071

@@ -1,5 +1,5 @@
 -- The one handler of acts: what they do to a world, what happened on the way, and what is counted over that.
--- 01:16-17, 42-43, 54, 66, 70; 02 b
+-- 01:16-17, 42-43, 54, 66, 70; 02 b, m
 use Prim.Native.Nat.{ℕ, zero, suc, _+_, _*_}
 use mathlib.Core.Bool.{Bool, true, false}
 use mathlib.Core.List.{List, [], _∷_}
@@ -11,8 +11,8 @@ use Rattle.sheet.specs.Psw.{Flag, Effect, Choice, keeps, flagOf, settled
 use Rattle.sheet.specs.Registers.{fileOf, written}
 use Rattle.sheet.specs.Memory.{readMem, writeMem, busCycles, lostBytes}
 use Rattle.sheet.specs.Log.{rule, keyOf, recordBytes, writeLog}
-use Rattle.sheet.specs.World.{World, world, withState, withRam, pswOf, withFile, withPsw, withHalted, recorded}
-use Rattle.sheet.specs.Act.{Act, pure, refuse, get, put, ask, copy, flags, load, store, input, output, halt}
+use Rattle.sheet.specs.World.{World, world, withState, withRam, pswOf, withFile, withPsw, withHalted, crossed, recorded}
+use Rattle.sheet.specs.Act.{Act, pure, refuse, get, put, ask, copy, flags, load, store, input, output, halt, cross}
 
 -- ---- ports
 
@@ -82,6 +82,7 @@ runBy u (store b g o v p) w = then (writes b g o v (lostBytes b (w .ram) g o)) (
 runBy u (input b n k) w = ported (inputs b n w) (λ v w′. then (takes b n v) (runBy u (k v) w′))
 runBy u (output b n v p) w = ported (outputs b n v w) (λ x w′. then (gives b n v) (runBy u p w′))
 runBy u (halt b p) w = runBy u p (withState w (withHalted (w .state) b))
+runBy u (cross c p) w = runBy u p (withState w (crossed c (w .state)))
 
 -- document 01's choice, at every node
 abbrev pub kept : ℕ → Choice

@@ -1,17 +1,16 @@
--- BRK, BRKV, RETI, CHKIND. Each hands on whether it took a trap.
+-- BRK, BRKV, CHKIND. Each hands on whether it took a trap.
 -- 001:855-879, 1634-1639; 000:1313-1318; 01:27, 61
 use Prim.Native.Nat.{ℕ}
 use mathlib.Core.Bool.{Bool, true, false, _||_}
 use lib.Signed.{ltZ}
 use Rattle.sheet.specs.declared.Address.{Address}
 use Rattle.sheet.specs.declared.Interrupt.{Interrupt}
-use Rattle.sheet.specs.declared.Interrupt.the-variants.{Brk3, Brk, Brkv, Reti, Chkind}
+use Rattle.sheet.specs.declared.Interrupt.the-variants.{Brk3, Brk, Brkv, Chkind}
 use Rattle.sheet.specs.Width.{pick, halfOf, signedOf}
 use Rattle.sheet.specs.Psw.{OV}
-use Rattle.sheet.specs.Registers.{PS, PC}
-use Rattle.sheet.specs.Act.{Act, pure, _>>=_, _>>_, _≔_, flag, restore}
+use Rattle.sheet.specs.Act.{Act, pure, _>>=_, _>>_, flag}
 use Rattle.sheet.specs.Operand.{regValue, pairAt}
-use Rattle.sheet.specs.Traps.{pop, trap, untrapped}
+use Rattle.sheet.specs.Traps.{trap}
 
 unfoldable pub brk : ℕ → Act Bool
 brk v = do
@@ -25,15 +24,6 @@ unfoldable pub brkv : Act Bool
 brkv = do
   b ← flag OV
   trapIf b 4
-
-unfoldable pub reti : Act Unit
-reti = do
-  pc ← pop
-  ps ← pop
-  x ← pop
-  PC ≔ pc
-  PS ≔ ps
-  restore x
 
 -- the bounds are compared as signed numbers
 unfoldable pub outside : (v low high : ℕ) → Bool
@@ -51,5 +41,4 @@ unfoldable pub interrupts : Interrupt → Act Bool
 interrupts Brk3 = brk 3
 interrupts (Brk v) = brk v
 interrupts Brkv = brkv
-interrupts Reti = untrapped reti
 interrupts (Chkind reg from) = chkind reg from

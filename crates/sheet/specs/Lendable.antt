@@ -1,5 +1,5 @@
 -- What calls are given: the widths of the state, of lent bytes, and of the numbers of a call.
--- 01:13, 17, 29, 31
+-- 01:13, 17, 29, 31; 02 c
 use Prim.Native.Nat.{ℕ}
 use mathlib.Core.Bool.{Bool, true, _&&_}
 use mathlib.Core.List.{List, [], _∷_}

@@ -1,5 +1,5 @@
 -- PSW as flags and as 16 bits, and what an instruction does to it: a column of Table 8-4.
--- 001:519-550, 1146-1154; 01:14, 54
+-- 001:519-550, 1146-1154; 01:14, 54; of MD 001:550, 883-943 and 02 m
 use mathlib.Core.Bool.{Bool, false}
 use Prim.Native.Nat.{ℕ, _+_, _*_, _/_}
 use lib.Dec.{eqb}
@@ -33,15 +33,19 @@ at x d = odd (x / d)
 abbrev pub flagOf : ℕ → Flag → Bool
 flagOf x f = at x (weight f)
 
--- PSW with these flags: bits 1 and 12 to 15 are one, 3 and 5 zero
-abbrev pub pack : (Flag → Bool) → ℕ
-pack g =
-    0xf002 + weight CY * bit (g CY) + weight P * bit (g P) + weight AC * bit (g AC) + weight Z * bit (g Z) + weight S * bit (g S)
+-- MD, the mode's bit: 1 in native mode, 0 in the 8080 mode
+abbrev pub nativeOf : ℕ → Bool
+nativeOf x = at x 32768
+
+-- PSW with this MD and these flags: bits 1 and 12 to 14 are one, 3 and 5 zero
+abbrev pub pack : Bool → (Flag → Bool) → ℕ
+pack md g =
+    0x7002 + 32768 * bit md + weight CY * bit (g CY) + weight P * bit (g P) + weight AC * bit (g AC) + weight Z * bit (g Z) + weight S * bit (g S)
     + weight BRK * bit (g BRK) + weight IE * bit (g IE) + weight DIR * bit (g DIR) + weight OV * bit (g OV)
 
--- the fixed bits are as they must be: packed again, the flags of x make x
+-- the fixed bits are as they must be: packed again, MD and the flags of x make x
 abbrev pub fixedOf : ℕ → Bool
-fixedOf x = eqb x (pack (flagOf x))
+fixedOf x = eqb x (pack (nativeOf x) (flagOf x))
 
 -- what the sheet prints for one flag: nothing, U, or a value (0, 1, by the result, or R)
 pub data Effect : Type 0 where
@@ -97,6 +101,21 @@ settle u blank old = old
 settle u unknown old = u old
 settle u (becomes b) old = b
 
--- PSW x after effects c, under the choice u
+-- PSW x after effects c, under the choice u; MD stays
 unfoldable pub settled : Choice → (Flag → Effect) → ℕ → ℕ
-settled u c x = pack (λ f. settle (u f) (c f) (flagOf x f))
+settled u c x = pack (nativeOf x) (λ f. settle (u f) (c f) (flagOf x f))
+
+-- PSW x with this MD
+unfoldable pub inMode : Bool → ℕ → ℕ
+inMode md x = pack md (flagOf x)
+
+-- what becomes of MD, and of the permission to write it
+pub data Crossing : Type 0 where
+  -- native mode: traps, interrupts and CALLN
+  toNative : Crossing
+  -- the 8080 mode, and the permission is given: BRKEM
+  toCards : Crossing
+  -- native mode, and the permission is taken back: RETEM
+  back : Crossing
+  -- MD of a stored PSW, under the permission alone: POP PSW and RETI
+  stored : Bool → Crossing

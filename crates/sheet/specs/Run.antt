@@ -1,5 +1,5 @@
 -- A run of steps, of a budget up to `budgetTop` (Lendable).
--- 01:31, 48
+-- 01:31, 48; 02 b
 use Prim.Native.Nat.{ℕ, zero, suc}
 use mathlib.Core.List.{List, [], _∷_}
 use lib.ListN.{length}

@@ -1,5 +1,5 @@
--- The codes after 0F: bits, decimal strings and digits, bit fields.
--- 001:1276-1283, 1322-1328, 1440-1482 by their codes, 000:958-965, 1007-1013, 1120-1135 where these cannot be read; 01:50
+-- The codes after 0F: bits, decimal strings and digits, bit fields, BRKEM.
+-- 001:1276-1283, 1322-1328, 1440-1482 by their codes, 000:958-965, 1007-1013, 1120-1135 where these cannot be read; 000:1317; 01:50; 02 m
 use Prim.Native.Nat.{ℕ}
 use mathlib.Core.Bool.{_&&_}
 use mathlib.Core.List.{List, [], _∷_}
@@ -12,8 +12,10 @@ use Rattle.sheet.specs.declared.Bit.{Bit}
 use Rattle.sheet.specs.declared.Bit.the-variants.{Test1, Clr1, Set1, Not1}
 use Rattle.sheet.specs.declared.Decimal.the-variants.{Add4s, Sub4s, Cmp4s, Rol4, Ror4}
 use Rattle.sheet.specs.declared.Field.the-variants.{Ins, Ext}
+use Rattle.sheet.specs.declared.Mode.the-variants.{Brkem}
 use Rattle.sheet.specs.declared.Prefixes.{Prefixes}
 use Rattle.sheet.specs.declared.Instr.{Instr}
+use Rattle.sheet.specs.declared.Instr.the-variants.{Modes}
 use Rattle.sheet.specs.Groups.{Bits, Decimals, Fields}
 use Rattle.sheet.specs.Registers.{inDs0}
 use Rattle.sheet.specs.Reading.{Reading, got, _>>=_, _>>_, byte, allow}
@@ -56,6 +58,11 @@ fieldGiven k = do
   n ← byte
   k (memField m) (length.Given n)
 
+unfoldable pub breakForEmulation : Reading Instr
+breakForEmulation = do
+  v ← byte
+  got (Modes (Brkem v))
+
 abbrev pub secondBytes : Prefixes → List Row
 secondBytes p =
     row 0x10 2 (bitInCl p Test1)  -- TEST1 ..,CL 001:1440-1443, 002:2723-2726
@@ -75,4 +82,5 @@ secondBytes p =
     ∷ row 0x33 1 (λ b. fieldInRegister (λ o l. got (Fields (Ext (segOr (p .seg) inDs0) o l))))  -- EXT reg8,reg8' 000:962-963
     ∷ row 0x39 1 (λ b. fieldGiven (λ o l. got (Fields (Ins o l))))  -- INS reg8,imm4 000:960-961
     ∷ row 0x3b 1 (λ b. fieldGiven (λ o l. got (Fields (Ext (segOr (p .seg) inDs0) o l))))  -- EXT reg8,imm4 000:964-965
+    ∷ row 0xff 1 (λ b. breakForEmulation)  -- BRKEM imm8 000:1317
     ∷ []

@@ -1,14 +1,14 @@
--- PUSH, POP, PREPARE, DISPOSE.
+-- PUSH, POP but for POP PSW (Mode), PREPARE, DISPOSE.
 -- 001:710-853, 1577-1590; 000:1253-1267; 01:61-62
 use Prim.Native.Nat.{ℕ, zero, suc}
 use mathlib.Core.Bool.{Bool, true, false}
 use Rattle.sheet.specs.declared.Place.{Place}
 use Rattle.sheet.specs.declared.Place.the-variants.{Register, Memory}
 use Rattle.sheet.specs.declared.Stack.{Stack}
-use Rattle.sheet.specs.declared.Stack.the-variants.{Push, PushByte, PushWord, PushSegment, PushPsw, PushR, Pop, PopSegment, PopPsw, PopR, Prepare, Dispose}
+use Rattle.sheet.specs.declared.Stack.the-variants.{Push, PushByte, PushWord, PushSegment, PushPsw, PushR, Pop, PopSegment, PopR, Prepare, Dispose}
 use Rattle.sheet.specs.Width.{sub16}
 use Rattle.sheet.specs.Registers.{AW, CW, DW, BW, SP, BP, IX, IY, SS, segment, readReg}
-use Rattle.sheet.specs.Act.{Act, pure, _>>=_, _>>_, registers, _≔_, restore, peek, poke, loop}
+use Rattle.sheet.specs.Act.{Act, pure, _>>=_, _>>_, registers, _≔_, peek, poke, loop}
 use Rattle.sheet.specs.Operand.{locate, deposit, valueAt}
 use Rattle.sheet.specs.Traps.{push, pop, popInto, pushPsw}
 
@@ -52,11 +52,6 @@ popPlace to = do
 
 unfoldable pub popSegment : ℕ → Act Unit
 popSegment seg = popInto (segment seg)
-
-unfoldable pub popPsw : Act Unit
-popPsw = do
-  x ← pop
-  restore x
 
 -- POP R: the word that stands for SP is read and dropped
 unfoldable pub popR : Act Unit
@@ -109,7 +104,6 @@ stack PushPsw = pushPsw
 stack PushR = pushR
 stack (Pop to) = popPlace to
 stack (PopSegment seg) = popSegment seg
-stack PopPsw = popPsw
 stack PopR = popR
 stack (Prepare size level) = prepare size level
 stack Dispose = dispose
@@ -124,7 +118,6 @@ popIn PushPsw = false
 popIn PushR = false
 popIn (Pop to) = false
 popIn (PopSegment seg) = true
-popIn PopPsw = false
 popIn PopR = false
 popIn (Prepare size level) = false
 popIn Dispose = false

@@ -1,9 +1,9 @@
 -- One step, an interrupt call, and reset; what a step and an interrupt report. Calls are given worlds that are `lendable`, and
 -- vectors up to `vectorTop` (Lendable). Stated elsewhere: at most nine bytes make an instruction (01:23: `nine-bytes` in rom_form/proofs),
 -- a step makes at most 1,028 bus cycles (01:66: `at-most-1028` in theorems/proofs), what a service is (01:29: `Service` in theorems/specs/Repeat).
--- 01:15, 23-29, 35-48; 02 f
+-- 01:15, 23-29, 35-48; 02 b, c, f, m
 use Prim.Native.Nat.{ℕ, _+_}
-use mathlib.Core.Bool.{Bool, true, false, not, _&&_}
+use mathlib.Core.Bool.{Bool, true, false, not, _&&_, _||_}
 use mathlib.Core.List.{List, []}
 use lib.ListN.{length, replicate, set}
 use lib.Dec.{leb}
@@ -12,9 +12,9 @@ use Rattle.sheet.specs.declared.Marks.{Marks}
 use Rattle.sheet.specs.declared.Move.{Move}
 use Rattle.sheet.specs.declared.Move.the-variants.{Transfers, Stacks, Branches, Tests}
 use Rattle.sheet.specs.declared.Instr.{Instr}
-use Rattle.sheet.specs.declared.Instr.the-variants.{Computes, Moves, Multiplies, Interrupts, Blocks, Ports, Controls}
+use Rattle.sheet.specs.declared.Instr.the-variants.{Computes, Moves, Multiplies, Interrupts, Blocks, Ports, Controls, Modes, Cards}
 use Rattle.sheet.specs.Width.{pick, add16}
-use Rattle.sheet.specs.Psw.{BRK, IE, Choice, flagOf, fixedOf}
+use Rattle.sheet.specs.Psw.{BRK, IE, Choice, flagOf, nativeOf, fixedOf}
 use Rattle.sheet.specs.Registers.{PS, PC, PSW, fileOf}
 use Rattle.sheet.specs.Memory.{physical, byteAt}
 use Rattle.sheet.specs.Log.{ceiling, rule, risen}
@@ -24,6 +24,7 @@ use Rattle.sheet.specs.Handler.{Outcome, refused, runBy, kept}
 use Rattle.sheet.specs.Contract.{seen, Report, reportOf}
 use Rattle.sheet.specs.Reading.{Read, known, unknown, scan}
 use Rattle.sheet.specs.FirstByte.{instruction}
+use Rattle.sheet.specs.CardCodes.{cardInstruction}
 use Rattle.sheet.specs.Traps.{trap}
 use Rattle.sheet.specs.Transfer.{movIn}
 use Rattle.sheet.specs.Stack.{popIn}
@@ -43,9 +44,13 @@ placesGood s tape log = leb (s .progress .tape) (length tape) && (leb (s .progre
 abbrev pub marksGood : Marks → Bool
 marksGood m = not (m .halted && m .loaded)
 
--- number 2 is given where this fails: fixed bits of PSW, places, count, marks
+-- the fixed bits of PSW, and MD: 0 needs the permission
+abbrev pub pswGood : State → Bool
+pswGood s = fixedOf (pswOf s) && (nativeOf (pswOf s) || s .marks .writable)
+
+-- number 2 is given where this fails: PSW, places, count, marks
 unfoldable pub sound : World → Bool
-sound w = fixedOf (pswOf (w .state)) && (placesGood (w .state) (w .tape) (w .log) && marksGood (w .state .marks))
+sound w = pswGood (w .state) && (placesGood (w .state) (w .tape) (w .log) && marksGood (w .state .marks))
 
 -- the first of two refusals that is due, or what comes then
 abbrev pub checked : {A : Type 0} → World → (ℕ → A) → A → A
@@ -66,9 +71,9 @@ codeByte ram rom ps pc j = byteAt ram rom (codeAt ps pc j)
 abbrev pub source : World → ℕ → ℕ
 source w = codeByte (w .ram) (w .rom) (fileOf (w .state .file) PS) (fileOf (w .state .file) PC)
 
--- what the bytes at PS:PC say: whoever asks which instruction comes next asks here
+-- what the bytes at PS:PC say in the mode in force: whoever asks which instruction comes next asks here
 unfoldable pub instructionIn : World → Read Instr
-instructionIn w = scan instruction (source w) 0
+instructionIn w = scan (pick (nativeOf (pswOf (w .state))) instruction cardInstruction) (source w) 0
 
 -- what a trap from outside the instruction does: it ends a halt
 unfoldable pub interrupting : ℕ → Act Unit
@@ -91,6 +96,8 @@ loadsSegment (Interrupts i) = false
 loadsSegment (Blocks k w seg q) = false
 loadsSegment (Ports i) = false
 loadsSegment (Controls i) = false
+loadsSegment (Modes i) = false
+loadsSegment (Cards i) = false
 
 -- the trap to vector 1 if BRK was 1 before and no other trap was taken
 unfoldable pub singleStep : Bool → Act Unit
@@ -131,10 +138,10 @@ interruptBy u v maskable w =
 unfoldable pub interrupt : ℕ → Bool → World → Outcome Unit
 interrupt v maskable w = interruptBy kept v maskable w
 
--- ---- reset
+-- ---- reset: native mode, no permission
 
 unfoldable pub reset : State
-reset = stateOf (set (set (replicate 14 0) PS 0xffff) PSW 0xf002) (marksOf false false) (progressOf 0 0 0)
+reset = stateOf (set (set (replicate 14 0) PS 0xffff) PSW 0xf002) (marksOf false false false) (progressOf 0 0 0)
 
 -- ---- what a call reports
 

@@ -1,12 +1,14 @@
 -- The machine with what it is lent, and the setters of its parts.
--- 01:13, 17; 02 f
+-- 01:13, 17; 02 f, m
 use Prim.Native.Nat.{ℕ, _+_}
-use mathlib.Core.Bool.{Bool}
+use mathlib.Core.Bool.{Bool, true, false}
 use mathlib.Core.List.{List}
 use lib.ListN.{getD, set}
 use Rattle.sheet.specs.declared.State.{State}
 use Rattle.sheet.specs.declared.Marks.{Marks}
 use Rattle.sheet.specs.declared.Progress.{Progress}
+use Rattle.sheet.specs.Width.{pick}
+use Rattle.sheet.specs.Psw.{inMode, Crossing, toNative, toCards, back, stored}
 use Rattle.sheet.specs.Registers.{PSW}
 
 pub record World : Type 0 where
@@ -47,19 +49,34 @@ abbrev pub withProgress : State → Progress → State
 withProgress s q = stateOf (s .file) (s .marks) q
 
 -- the marks of these: the only place that writes them down
-abbrev pub marksOf : Bool → Bool → Marks
-marksOf halted loaded = record { halted = halted; loaded = loaded }
+abbrev pub marksOf : Bool → Bool → Bool → Marks
+marksOf halted loaded writable = record { halted = halted; loaded = loaded; writable = writable }
 
 -- the halted mark, set or not
 abbrev pub markHalted : Marks → Bool → Marks
-markHalted m b = marksOf b (m .loaded)
+markHalted m b = marksOf b (m .loaded) (m .writable)
 
 -- the mark of a segment load, set or not
 abbrev pub markLoaded : Marks → Bool → Marks
-markLoaded m b = marksOf (m .halted) b
+markLoaded m b = marksOf (m .halted) b (m .writable)
+
+-- the permission to write MD, given or not
+abbrev pub markWritable : Marks → Bool → Marks
+markWritable m b = marksOf (m .halted) (m .loaded) b
 
 abbrev pub withHalted : State → Bool → State
 withHalted s b = withMarks s (markHalted (s .marks) b)
+
+-- MD becomes b
+abbrev pub withMode : State → Bool → State
+withMode s b = withPsw s (inMode b (pswOf s))
+
+-- the mode and the permission after a crossing
+unfoldable pub crossed : Crossing → State → State
+crossed toNative s = withMode s true
+crossed toCards s = withMode (withMarks s (markWritable (s .marks) true)) false
+crossed back s = withMode (withMarks s (markWritable (s .marks) false)) true
+crossed (stored b) s = pick (s .marks .writable) (withMode s b) s
 
 abbrev pub progressOf : ℕ → ℕ → ℕ → Progress
 progressOf tape log count = record { tape = tape; log = log; count = count }

@@ -1,6 +1,8 @@
 // The types that the definitions of specs/ and the code share.
 pub mod cards;
 
+use cards::Card;
+
 // ---- the machine
 
 pub struct State {
@@ -14,6 +16,8 @@ pub struct Marks {
     pub halted: bool,
     // the last finished step loaded a segment register
     pub loaded: bool,
+    // POP PSW and RETI may write MD: between a BRKEM and the RETEM that closes it (02 m)
+    pub writable: bool,
 }
 
 // What of a state the ports move.
@@ -202,7 +206,6 @@ pub enum Stack {
     PushR,
     Pop { to: Place },
     PopSegment { seg: u8 },
-    PopPsw,
     PopR,
     Prepare { size: u16, level: u8 },
     Dispose,
@@ -237,8 +240,14 @@ pub enum Interrupt {
     Brk3,
     Brk { vector: u8 },
     Brkv,
-    Reti,
     Chkind { reg: u8, from: Address },
+}
+
+// What may write MD, the mode's bit of PSW.
+pub enum Mode {
+    PopPsw,
+    Reti,
+    Brkem { vector: u8 },
 }
 
 pub enum Primitive {
@@ -335,6 +344,9 @@ pub enum Instr {
     },
     Ports(Io),
     Controls(Control),
+    Modes(Mode),
+    // the 8080 mode's
+    Cards(Card),
 }
 
 // ---- the port log

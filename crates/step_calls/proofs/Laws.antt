@@ -1,6 +1,6 @@
 -- What each return of the code comes to, over plain values.
 use Prim.Native.Nat.{ℕ, _+_, _-_, _≤_, _<_, zero-le}
-use mathlib.Core.Bool.{Bool, true, false, not, _&&_, and-true}
+use mathlib.Core.Bool.{Bool, true, false, not, _&&_, and-true, _||_}
 use mathlib.Core.List.{List}
 use mathlib.Core.Path.{_≡_, refl, sym, ap, _∙_}
 use native.Mathlib.Omega.{arith}
@@ -11,13 +11,13 @@ use Rattle.sheet.specs.declared.Bus.{Bus}
 use Rattle.sheet.specs.declared.Marks.{Marks}
 use Rattle.sheet.specs.declared.State.{State}
 use Rattle.sheet.specs.Width.{pick}
-use Rattle.sheet.specs.Psw.{IE, flagOf, fixedOf}
+use Rattle.sheet.specs.Psw.{IE, flagOf, nativeOf, fixedOf}
 use Rattle.sheet.specs.Registers.{PSW}
 use Rattle.sheet.specs.Log.{ceiling, rule}
 use Rattle.sheet.specs.World.{World, world, pswOf, markHalted}
 use Rattle.sheet.specs.Handler.{Outcome, kept, run, runBy, nothing}
 use Rattle.sheet.specs.Traps.{trap}
-use Rattle.sheet.specs.Step.{placesGood, marksGood, fits, sound, checked, refusal, interrupting, interruptBy, interrupt, interruptReport}
+use Rattle.sheet.specs.Step.{pswGood, placesGood, marksGood, fits, sound, checked, refusal, interrupting, interruptBy, interrupt, interruptReport}
 use Rattle.sheet.specs.Contract.{seen, exec, OnMemory, report, reportOf}
 use Rattle.sheet.proofs.Rules.{seq-last, ends-halted}
 use Rattle.mach_tally.specs.Sums.{Free}
@@ -26,6 +26,9 @@ use Rattle.step_calls.specs.Calls.{checkNumber, heldNumber, Accepts, Int
 -- the count's type holds it within the ceiling
 pub count-good : (s : State) (tape log : List ℕ) → s .progress .count ≤ ceiling rule → (leb (s .progress .tape) (length tape) && leb (s .progress .log) (length log)) ≡ placesGood s tape log
 count-good s tape log h = rw (le-leb (s .progress .count) (ceiling rule) h, and-true (leb (s .progress .log) (length log)))
+
+pub psw-good-is : (s : State) (x n : Bool) → x ≡ fixedOf (getD (s .file) PSW 0) → n ≡ nativeOf (getD (s .file) PSW 0) → (x && (n || s .marks .writable)) ≡ pswGood s
+psw-good-is s x n e q = rw (e, q)
 
 module _ (s : State) (ram rom tape log : List ℕ) where
   -- RAM alone is too long, or both together
@@ -41,11 +44,11 @@ module _ (s : State) (ram rom tape log : List ℕ) where
   unfolding fits
   fit h k = le-leb (length ram + length rom) 1048576 (omega arith)
 
-  pub check-good : (x p m : Bool) → length ram ≤ 1048576 → length rom ≤ 1048576 - length ram → x ≡ fixedOf (getD (s .file) PSW 0) → p ≡ placesGood s tape log → m ≡ marksGood (s .marks) → (x && (p && m)) ≡ true → 0 ≡ checkNumber (world s ram rom tape log)
+  pub check-good : (x p m : Bool) → length ram ≤ 1048576 → length rom ≤ 1048576 - length ram → x ≡ pswGood s → p ≡ placesGood s tape log → m ≡ marksGood (s .marks) → (x && (p && m)) ≡ true → 0 ≡ checkNumber (world s ram rom tape log)
   unfolding sound
   check-good x p m h k e q g z = rw (fit h k, ← e, ← q, ← g, z)
 
-  pub check-bad : (x p m : Bool) → length ram ≤ 1048576 → length rom ≤ 1048576 - length ram → x ≡ fixedOf (getD (s .file) PSW 0) → p ≡ placesGood s tape log → m ≡ marksGood (s .marks) → (x && (p && m)) ≡ false → 2 ≡ checkNumber (world s ram rom tape log)
+  pub check-bad : (x p m : Bool) → length ram ≤ 1048576 → length rom ≤ 1048576 - length ram → x ≡ pswGood s → p ≡ placesGood s tape log → m ≡ marksGood (s .marks) → (x && (p && m)) ≡ false → 2 ≡ checkNumber (world s ram rom tape log)
   unfolding sound
   check-bad x p m h k e q g z = rw (fit h k, ← e, ← q, ← g, z)
 

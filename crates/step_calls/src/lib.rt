@@ -6,7 +6,8 @@ use sheet::State;
 ghost use mathlib.Core.Path.{_≡_};
 ghost use Rattle.sheet.specs.World.{world};
 ghost use Rattle.sheet.specs.Step as definition;
-ghost use Rattle.step_calls.specs.Calls.{checkNumber, heldNumber, Accepts, Interrupts};
+ghost use Rattle.step_calls.specs.Calls.{checkNumber, heldNumber};
+ghost use Rattle.step_calls.specs.Lent.{AcceptsOn, InterruptsOn};
 
 // What a call answers: the number, the state and the bus.
 pub struct Answer {
@@ -37,6 +38,16 @@ fn places_good(s: State, tape: &[u8], log: &[u8]) -> bool
     (s.progress.tape <= tape.len()) & (s.progress.log <= log.len())
 }
 
+// The fixed bits, and MD: 0 needs the permission.
+fn psw_good(s: State) -> bool
+    ensures { λ r. ⌜ r ≡ definition.pswGood s ⌝ }
+{
+    let psw = s.file[PSW];
+    let fixed = calc_flags::fixed(psw);
+    let native = calc_flags::native(psw);
+    fixed & (native | s.marks.writable)
+}
+
 // 1, 2, or 0 where neither is due.
 pub fn check(s: State, ram: &[u8], rom: &[u8], tape: &[u8], log: &[u8]) -> u8
     ensures { λ r. ⌜ r ≡ checkNumber (world s (now (ram .entry)) (now (rom .entry)) (now (tape .entry)) (now (log .entry))) ⌝ }
@@ -49,7 +60,7 @@ pub fn check(s: State, ram: &[u8], rom: &[u8], tape: &[u8], log: &[u8]) -> u8
     if 1048576 - long < n {
         return 1;
     }
-    let fixed = calc_flags::fixed(s.file[PSW]);
+    let fixed = psw_good(s);
     let placed = places_good(s, tape, log);
     let m = s.marks;
     let marked = mach_marks::good(m);
@@ -61,7 +72,7 @@ pub fn check(s: State, ram: &[u8], rom: &[u8], tape: &[u8], log: &[u8]) -> u8
 
 // The interrupt itself, once it is accepted.
 fn accept(s: State, ram: &mut [u8], rom: &[u8], vector: u8) -> Answer
-    ensures { λ r. ⌜ Accepts vector s (now (ram .entry)) (now (rom .entry)) (r .number) (r .state) (now (ram .exit)) (r .bus) ⌝ }
+    ensures { λ r. ⌜ AcceptsOn vector s ram rom (r .number) (r .state) (r .bus) ⌝ }
 {
     let mut file = s.file;
     let m = s.marks;
@@ -103,7 +114,7 @@ pub fn interrupt(
     vector: u8,
     maskable: bool,
 ) -> Answer
-    ensures { λ r. ⌜ Interrupts vector maskable s (now (ram .entry)) (now (rom .entry)) (now (tape .entry)) (now (log .entry)) (r .number) (r .state) (now (ram .exit)) (r .bus) ⌝ }
+    ensures { λ r. ⌜ InterruptsOn vector maskable s ram rom tape log (r .number) (r .state) (r .bus) ⌝ }
 {
     let number = check(s, ram, rom, tape, log);
     if number != 0 {

@@ -12,10 +12,12 @@ use Rattle.sheet.specs.declared.Primitive.{Primitive}
 use Rattle.sheet.specs.declared.Repeat.{Repeat}
 use Rattle.sheet.specs.declared.Io.{Io}
 use Rattle.sheet.specs.declared.Control.{Control}
+use Rattle.sheet.specs.declared.Mode.{Mode}
+use Rattle.sheet.specs.declared.cards.Card.{Card}
 use Rattle.sheet.specs.declared.Instr.{Instr}
 use Rattle.sheet.specs.declared.Compute.{Compute}
 use Rattle.sheet.specs.declared.Move.{Move}
-use Rattle.sheet.specs.declared.Instr.the-variants.{Computes, Moves, Multiplies, Interrupts, Blocks, Ports, Controls}
+use Rattle.sheet.specs.declared.Instr.the-variants.{Computes, Moves, Multiplies, Interrupts, Blocks, Ports, Controls, Modes, Cards}
 use Rattle.sheet.specs.World.{stateOf}
 use Rattle.sheet.specs.Act.{Act}
 use Rattle.sheet.specs.Interrupts.{interrupts}
@@ -24,13 +26,17 @@ use Rattle.sheet.specs.Ports.{ports}
 use Rattle.sheet.specs.Control.{control}
 use Rattle.sheet.specs.Traps.{untrapped}
 use Rattle.sheet.specs.Multiply.{multiply}
-use Rattle.sheet.specs.Execute.{computing, moving, operation}
-use Rattle.sheet.specs.Contract.{OnMemory}
+use Rattle.sheet.specs.Mode.{modes}
+use Rattle.sheet.specs.Execute.{computing, moving, carding, operation}
+use Rattle.sheet.specs.Contract.{OnMemory, OnMarks}
 use Rattle.sheet.proofs.Rules.{seq-last, seq-free, seq-stops, ends-pure}
 use Rattle.mach_tally.specs.Sums.{Free}
 use Rattle.mach_tally.proofs.Bounds.{within-free, within-memory, within-more}
 use Rattle.mach_ports.specs.Accesses.{OnPorts}
 use Rattle.do_control.specs.Controls as do-control
+use Rattle.do_mode.specs.declared.Moded.{Moded}
+use Rattle.do_8080.specs.declared.Carded.{Carded}
+use Rattle.do_8080.specs.Lent.{OnAll}
 use Rattle.mach_ports.specs.declared.Ported.{Ported}
 use Rattle.mach_stack.specs.declared.Worked.{Worked}
 use Rattle.step_execute.specs.declared.Performed.{Performed}
@@ -80,6 +86,28 @@ control-is t f g ram rom tape log h q h′ n k e = record {
   same = λ z. absurd (z refl);
 }
 
+-- code that is lent the marks
+pub marked-is : (p : Act Unit) (f g ram ram′ rom tape log : List ℕ) (h h′ : Marks) (q : Progress) (n : Bus) (k : ℕ) → k ≤ 1020 → OnMarks Unit p f ram rom h tt g ram′ h′ n k
+    → Performs (untrapped p) f ram rom tape log h q 0 false h′ g ram′ log q n
+unfolding untrapped
+marked-is p f g ram ram′ rom tape log h h′ q n j m k = record {
+  most = within-more m (record { cycles = k .most; dropped = k .fair });
+  done = λ z. seq-last _ (k .at q tape log) ends-pure;
+  stop = λ z. absurd (z refl);
+  same = λ z. absurd (z refl);
+}
+
+-- code that is lent everything
+pub carded-is : (p : Act Unit) (f g ram ram′ rom tape log log′ : List ℕ) (h h′ : Marks) (q q′ : Progress) (number : ℕ) (n : Bus) (k : ℕ) → k ≤ 1020
+    → OnAll p f ram rom tape log h q number g ram′ log′ h′ q′ n k → Performs (untrapped p) f ram rom tape log h q number false h′ g ram′ log′ q′ n
+unfolding untrapped
+carded-is p f g ram ram′ rom tape log log′ h h′ q q′ number n j m k = record {
+  most = within-more m (k .most);
+  done = λ z. seq-last _ (k .done z) ends-pure;
+  stop = λ z. seq-stops _ (k .stop z);
+  same = k .same;
+}
+
 -- ---- which tree an instruction is
 
 module _ (i : Instr) (start : ℕ) where
@@ -111,6 +139,14 @@ module _ (i : Instr) (start : ℕ) where
   unfolding operation
   of-interrupts t e = rw e
 
+  pub of-modes : (t : Mode) → i ≡ Modes t → operation i start ≡ untrapped (modes t)
+  unfolding operation
+  of-modes t e = rw e
+
+  pub of-cards : (t : Card) → i ≡ Cards t → operation i start ≡ untrapped (carding t)
+  unfolding operation
+  of-cards t e = rw e
+
 -- ---- what the code hands on
 
 abbrev pub Comes : Act Bool → (f ram rom tape log : List ℕ) → Marks → Progress → Performed → (g ram′ log′ : List ℕ) → Type 0
@@ -132,6 +168,19 @@ module _ (o : Act Bool) (f g ram ram′ rom tape log : List ℕ) (h : Marks) (q 
       → OnPorts p f ram rom tape log q (r .number) g ram′ log′ (r .progress) (r .bus) k → x ≡ handed (r .number) false h (r .progress) (r .bus)
       → Comes o f ram rom tape log h q x g ram′ log′
   at-through p r log′ k e m j u = rw (e, u) (ported-is p f g ram ram′ rom tape log h q log′ (r .progress) (r .number) (r .bus) k m j)
+
+  pub at-marked : (p : Act Unit) (r : Moded) (k : ℕ) → o ≡ untrapped p → k ≤ 1020 → OnMarks Unit p f ram rom h tt g ram′ (r .marks) (r .bus) k → x ≡ handed 0 false (r .marks) q (r .bus)
+      → Comes o f ram rom tape log h q x g ram′ log
+  at-marked p r k e m j u = rw (e, u) (marked-is p f g ram ram′ rom tape log h (r .marks) q (r .bus) k m j)
+
+module _ (f g ram ram′ rom tape log log′ : List ℕ) (h : Marks) (q : Progress) (x : Performed) where
+  pub at-carded : (p : Act Unit) (r : Carded) (k : ℕ) → k ≤ 1020 → OnAll p f ram rom tape log h q (r .number) g ram′ log′ (r .marks) (r .progress) (r .bus) k
+      → x ≡ handed (r .number) false (r .marks) (r .progress) (r .bus) → Comes (untrapped p) f ram rom tape log h q x g ram′ log′
+  at-carded p r k m j u = rw u (carded-is p f g ram ram′ rom tape log log′ h (r .marks) q (r .progress) (r .number) (r .bus) k m j)
+
+  pub at-card : (i : Instr) (start : ℕ) (t : Card) → i ≡ Cards t → Comes (untrapped (carding t)) f ram rom tape log h q x g ram′ log′
+      → Comes (operation i start) f ram rom tape log h q x g ram′ log′
+  at-card i start t e j = rw (of-cards i start t e) j
 
 pub at-control : (o : Act Bool) (f g ram rom tape log : List ℕ) (h : Marks) (q : Progress) (t : Control) (h′ : Marks) (n : Bus) → o ≡ untrapped (control t) → do-control.Controls t f h g h′ → Free n
     → Performs o f ram rom tape log h q 0 false h′ g ram log q n

@@ -1,14 +1,18 @@
 // Every instruction's operation.
+use do_8080::Carded;
+use do_mode::Moded;
 use mach_ports::Ported;
 use mach_stack::Worked;
 use sheet::Bus;
 use sheet::Instr;
 use sheet::Marks;
 use sheet::Progress;
+use sheet::cards::Card;
 ghost use mathlib.Core.Path.{_≡_};
 ghost use mathlib.Core.Bool.{false};
-ghost use Rattle.sheet.specs.Execute.{operation};
-ghost use Rattle.step_execute.specs.Performs.{Performs};
+ghost use Rattle.sheet.specs.Traps.{untrapped};
+ghost use Rattle.sheet.specs.Execute.{carding, operation};
+ghost use Rattle.step_execute.specs.Lent.{PerformsOn};
 
 // What an instruction came to: the refusal's number, whether it took a trap itself, the marks, the places, the bus.
 pub struct Performed {
@@ -62,6 +66,47 @@ fn through(m: Marks, r: Ported) -> Performed
     }
 }
 
+// One that is lent the marks.
+fn marked(q: Progress, r: Moded) -> Performed
+    ensures { λ x. ⌜ x ≡ record { number = 0; trapped = false; marks = r .marks; progress = q; bus = r .bus } ⌝ }
+{
+    let m = r.marks;
+    let b = r.bus;
+    quiet(m, q, b)
+}
+
+// One of the 8080 mode.
+fn carded(r: Carded) -> Performed
+    ensures { λ x. ⌜ x ≡ record { number = r .number; trapped = false; marks = r .marks; progress = r .progress; bus = r .bus } ⌝ }
+{
+    let m = r.marks;
+    let p = r.progress;
+    let b = r.bus;
+    Performed {
+        number: r.number,
+        trapped: false,
+        marks: m,
+        progress: p,
+        bus: b,
+    }
+}
+
+fn card(
+    file: &mut [u16; 14],
+    ram: &mut [u8],
+    rom: &[u8],
+    tape: &[u8],
+    log: &mut [u8],
+    m: Marks,
+    q: Progress,
+    i: Card,
+) -> Performed
+    ensures { λ r. ⌜ PerformsOn (untrapped (carding i)) file ram rom tape log m q r ⌝ }
+{
+    let r = do_8080::card(file, ram, rom, tape, log, m, q, i);
+    carded(r)
+}
+
 // An instruction that began at the offset `start`; PC stands on the next one.
 pub fn perform(
     file: &mut [u16; 14],
@@ -74,7 +119,7 @@ pub fn perform(
     i: Instr,
     start: u16,
 ) -> Performed
-    ensures { λ r. ⌜ Performs (operation i start) (now (file .entry)) (now (ram .entry)) (now (rom .entry)) (now (tape .entry)) (now (log .entry)) m q (r .number) (r .trapped) (r .marks) (now (file .exit)) (now (ram .exit)) (now (log .exit)) (r .progress) (r .bus) ⌝ }
+    ensures { λ r. ⌜ PerformsOn (operation i start) file ram rom tape log m q r ⌝ }
 {
     match i {
         Instr::Computes(t) => quiet(m, q, step_plain::compute(file, ram, rom, t)),
@@ -116,5 +161,10 @@ pub fn perform(
                 bus: mach_tally::none(),
             }
         }
+        Instr::Modes(t) => {
+            let r = do_mode::mode(file, ram, rom, m, t);
+            marked(q, r)
+        }
+        Instr::Cards(t) => card(file, ram, rom, tape, log, m, q, t),
     }
 }

@@ -1,1 +1,2 @@
 pub mod Proceeds
+pub mod Lent

@@ -10,10 +10,11 @@ ghost use mathlib.Core.Path.{_≡_};
 ghost use Rattle.sheet.specs.Log.{rule, risen};
 ghost use mathlib.Core.Bool.{not, _&&_};
 ghost use Rattle.sheet.specs.Psw.{BRK, flagOf};
-ghost use Rattle.step_one.specs.Proceeds.{begunAt, Finishes, Settles, Proceeds};
+ghost use Rattle.step_one.specs.Proceeds.{begunAt};
+ghost use Rattle.step_one.specs.Lent.{FinishesOn, SettlesOn, ProceedsOn};
 ghost use Rattle.sheet.specs.Execute.{execute};
 ghost use Rattle.mach_tally.specs.Bounds.{Within};
-ghost use Rattle.step_execute.specs.Performs.{Performs};
+ghost use Rattle.step_execute.specs.Lent.{PerformsOn};
 
 // The count once one more step is done.
 pub fn count_on(count: u32) -> u32
@@ -33,7 +34,7 @@ struct Finished {
 
 // The trap to vector 1, which ends a halt.
 fn finish(file: &mut [u16; 14], ram: &mut [u8], rom: &[u8], traced: bool, m: Marks) -> Finished
-    ensures { λ r. ⌜ Finishes traced (now (file .entry)) (now (ram .entry)) (now (rom .entry)) m (now (file .exit)) (now (ram .exit)) (r .marks) (r .bus) ⌝ }
+    ensures { λ r. ⌜ FinishesOn traced file ram rom m r ⌝ }
 {
     if traced {
         let b = mach_stack::trap(file, ram, rom, 1);
@@ -77,7 +78,7 @@ pub struct Stepped {
 // What follows an instruction that was not refused.
 fn settle(file: &mut [u16; 14], ram: &mut [u8], rom: &[u8], traced: bool, p: Performed) -> Stepped
     requires { ⌜ Within (p .bus) 1020 ⌝ }
-    ensures { λ r. ⌜ Settles (traced && not (p .trapped)) (p .marks) (p .progress) (p .bus) (now (file .entry)) (now (ram .entry)) (now (rom .entry)) (r .number) (r .marks) (r .progress) (now (file .exit)) (now (ram .exit)) (r .bus) ⌝ }
+    ensures { λ r. ⌜ SettlesOn traced p file ram rom r ⌝ }
 {
     let to = p.progress;
     let m = p.marks;
@@ -103,7 +104,7 @@ fn launch(
     i: Instr,
     size: u16,
 ) -> Performed
-    ensures { λ r. ⌜ Performs (execute i size) (now (file .entry)) (now (ram .entry)) (now (rom .entry)) (now (tape .entry)) (now (log .entry)) m q (r .number) (r .trapped) (r .marks) (now (file .exit)) (now (ram .exit)) (now (log .exit)) (r .progress) (r .bus) ⌝ }
+    ensures { λ r. ⌜ PerformsOn (execute i size) file ram rom tape log m q r ⌝ }
 {
     let start = file[PC];
     file[PC] = calc_word::plus16(start, size);
@@ -126,7 +127,7 @@ pub fn proceed(
     i: Instr,
     size: u16,
 ) -> Stepped
-    ensures { λ r. ⌜ Proceeds i size (now (file .entry)) (now (ram .entry)) (now (rom .entry)) (now (tape .entry)) (now (log .entry)) m q (r .number) (r .marks) (r .progress) (now (file .exit)) (now (ram .exit)) (now (log .exit)) (r .bus) ⌝ }
+    ensures { λ r. ⌜ ProceedsOn i size file ram rom tape log m q r ⌝ }
 {
     let marked = mach_marks::begun(m, i);
     let traced = is_traced(file[PSW], marked);

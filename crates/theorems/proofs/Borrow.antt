@@ -19,7 +19,7 @@ use Rattle.sheet.specs.declared.Compute.the-variants.{Decimals}
 use Rattle.sheet.specs.declared.Instr.the-variants.{Computes}
 use Rattle.sheet.specs.declared.Decimal.the-variants.{Sub4s}
 use Rattle.sheet.specs.Width.{add16}
-use Rattle.sheet.specs.Psw.{CY, BRK, unknown, becomes, columns, column, keeps, flagOf, settled}
+use Rattle.sheet.specs.Psw.{CY, BRK, unknown, becomes, columns, column, keeps, flagOf, nativeOf, settled}
 use Rattle.sheet.specs.Registers.{IX, IY, DS0, DS1, PC, PSW, CL, inDs0, readReg}
 use Rattle.sheet.specs.Memory.{readMem, writeMem}
 use Rattle.sheet.specs.World.{World, world, pswOf, withPsw}
@@ -40,7 +40,7 @@ use Rattle.sheet.specs.Execute.{computing, operation, execute}
 use Rattle.sheet.specs.Step.{fits, sound, source, loadsSegment, singleStep, starting, stepping, step, stepReport, instructionIn}
 use Rattle.sheet.proofs.PswLaws.{flag-settled}
 use Rattle.sheet.proofs.Rules.{seq-last, ends-pure, seq-registers, seq-set, seq-flag}
-use Rattle.sheet.proofs.BlockLaws.{no-prefix, Begins, scan-prefixes}
+use Rattle.sheet.proofs.BlockLaws.{no-prefix, Begins, scan-prefixes, native-read}
 use Rattle.calc_decimal.proofs.DecimalLaws.{packed, decimal-borrow}
 use Rattle.engine.specs.Steps.{Steps}
 use Rattle.engine.proofs.RunLaws.{as-done}
@@ -48,11 +48,12 @@ use Rattle.theorems.specs.Repeat.{reg}
 use Rattle.theorems.proofs.BoundsStep.{step-is}
 use Rattle.theorems.proofs.PortOnce.{begun, other-register}
 
--- 0F 22 at PS:PC of a machine that is to make a step: CL 1 or 2, m packed at DS1:IY and n packed at DS0:IX
+-- 0F 22 at PS:PC of a machine that is to make a step, in native mode: CL 1 or 2, m packed at DS1:IY and n packed at DS0:IX
 pub record Subtracting (w : World) (m n : ℕ) : Type 0 where
   pub fit : fits w ≡ true
   pub good : sound w ≡ true
   pub up : w .state .marks .halted ≡ false
+  pub native : nativeOf (pswOf (w .state)) ≡ true
   pub untraced : flagOf (pswOf (w .state)) BRK ≡ false
   pub whole : length (w .state .file) ≡ 14
   pub first : source w 0 ≡ 0x0f
@@ -81,9 +82,9 @@ no-prefix-byte : prefixOf 0x0f ≡ none
 unfolding prefixOf
 no-prefix-byte = refl
 
-sub4s-read : (w : World) → source w 0 ≡ 0x0f → source w 1 ≡ 0x22 → instructionIn w ≡ known subtraction 2
-unfolding instructionIn instruction
-sub4s-read w e f = scan-prefixes 0x0f 3 (source w) 0 no-prefix (lit≤ tt) no-prefix-byte (begins-so (source w) e) ∙ second-read (source w) f
+sub4s-read : (w : World) → nativeOf (pswOf (w .state)) ≡ true → source w 0 ≡ 0x0f → source w 1 ≡ 0x22 → instructionIn w ≡ known subtraction 2
+unfolding instruction
+sub4s-read w m e f = native-read w m ∙ scan-prefixes 0x0f 3 (source w) 0 no-prefix (lit≤ tt) no-prefix-byte (begins-so (source w) e) ∙ second-read (source w) f
 
 -- ---- the tree
 
@@ -194,7 +195,7 @@ module _ (w : World) (m n : ℕ) (hm : m < 100) (hn : n < 100) (s : Subtracting 
   sub4s-step =
       let (b, e) = string-ends u one-byte in
       let t = stepping-ends (starting subtraction w) (leftBy u (digitsIn u)) b e (starting-untraced w (s .untraced)) in
-      let d = as-done (step w) (leftBy u (digitsIn u)) b (ap seen (step-is w subtraction 2 (s .fit, s .good) (s .up) (sub4s-read w (s .first) (s .second))) ∙ t .is) in
+      let d = as-done (step w) (leftBy u (digitsIn u)) b (ap seen (step-is w subtraction 2 (s .fit, s .good) (s .up) (sub4s-read w (s .native) (s .first) (s .second))) ∙ t .is) in
       (leftBy u (digitsIn u), d .events, d .is, ram-left, cy-left)
 
   -- as code answers it

@@ -14,7 +14,7 @@ use Rattle.sheet.specs.declared.Prefixes.{Prefixes}
 use Rattle.sheet.specs.declared.Instr.{Instr}
 use Rattle.sheet.specs.Reading.{Reading}
 use Rattle.sheet.specs.Encoding.{Prefix, unprefixed, withPrefix, regField, Row, toRegister, lookUp}
-use Rattle.sheet.specs.SecondByte.{withPlain, bitInCl, bitGiven, fieldInRegister, fieldGiven, secondBytes}
+use Rattle.sheet.specs.SecondByte.{withPlain, bitInCl, bitGiven, fieldInRegister, fieldGiven, breakForEmulation, secondBytes}
 use Rattle.sheet.specs.FirstByte.{sixCodes, smallImmediate, withImmediate, withShift, shiftGroup, groupF6, groupFE, groupFF, fromSegment, toSegment, afterTen, withCounted, bytes00, bytes40, bytes80, bytesC0, firstBytes, afterPrefix, prefixed, instruction}
 use Rattle.log_record.proofs.Picked.{picked}
 use Rattle.theorems.proofs.BoundsReading.{LeafTo, Leaf, bind, also-fourth, into, either, Any, some-leaf, unknown-code, of-byte, of-word, any-byte, of-immediate, of-signedByte, of-allow, of-place, of-memory, of-plainPlace, Fine, ok, of-withPlace, of-withMemory, of-withAcc, of-withByte, of-withWord, of-withShort, of-withFar, Rows, of-lookUp, both, leaf, stop, none-more, _also_}
@@ -41,6 +41,10 @@ of-fieldGiven : (k : ℕ → Length → Reading Instr) → ((o : ℕ) (l : Lengt
 unfolding fieldGiven
 of-fieldGiven k h = bind of-byte λ m _. bind (of-allow _) λ _ _. bind of-byte λ n _. h _ _
 
+of-breakForEmulation : Leaf Fine breakForEmulation
+unfolding breakForEmulation
+of-breakForEmulation = into _ of-byte λ v. ok
+
 of-secondBytes : (p : Prefixes) → Rows (secondBytes p)
 of-secondBytes p =
     of-bitInCl p _
@@ -60,6 +64,7 @@ of-secondBytes p =
     also (λ n. of-fieldInRegister _ λ o l. leaf ok)
     also (λ n. of-fieldGiven _ λ o l. leaf ok)
     also (λ n. of-fieldGiven _ λ o l. leaf ok)
+    also (λ n. of-breakForEmulation)
     also none-more
 
 -- ---- groups behind a first byte

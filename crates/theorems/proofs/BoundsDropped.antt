@@ -11,9 +11,9 @@ use Rattle.sheet.specs.declared.Chain.{Chain}
 use Rattle.sheet.specs.declared.Decimal.{Decimal}
 use Rattle.sheet.specs.declared.Decimal.the-variants.{Add4s, Sub4s, Cmp4s, Rol4, Ror4}
 use Rattle.sheet.specs.declared.Stack.{Stack}
-use Rattle.sheet.specs.declared.Stack.the-variants.{Push, PushByte, PushWord, PushSegment, PushPsw, PushR, Pop, PopSegment, PopPsw, PopR, Prepare, Dispose}
+use Rattle.sheet.specs.declared.Stack.the-variants.{Push, PushByte, PushWord, PushSegment, PushPsw, PushR, Pop, PopSegment, PopR, Prepare, Dispose}
 use Rattle.sheet.specs.declared.Instr.{Instr}
-use Rattle.sheet.specs.declared.Instr.the-variants.{Computes, Moves, Multiplies, Interrupts, Blocks, Ports, Controls}
+use Rattle.sheet.specs.declared.Instr.the-variants.{Computes, Moves, Multiplies, Interrupts, Blocks, Ports, Controls, Modes, Cards}
 use Rattle.sheet.specs.declared.Compute.{Compute}
 use Rattle.sheet.specs.declared.Compute.the-variants.{Calculates, Converts, Shifts, Bits, Decimals, Fields}
 use Rattle.sheet.specs.declared.Move.{Move}
@@ -32,7 +32,7 @@ use Rattle.sheet.specs.declared.Way.the-variants.{Addition, Subtraction}
 use Rattle.sheet.specs.declared.Storing.{Storing}
 use Rattle.sheet.specs.declared.Storing.the-variants.{Stored, NotStored}
 use Rattle.sheet.specs.Decimal.{stores, link, chained, string, decimal}
-use Rattle.sheet.specs.Traps.{push, pushPsw, pushPsPc, save, trap}
+use Rattle.sheet.specs.Traps.{push, pushPsw, pushPsPc, save, vectored, trap}
 use Rattle.sheet.specs.Stack.{frame, frames, prepare, stack}
 use Rattle.sheet.specs.Execute.{computing, moving, operation, execute}
 use Rattle.sheet.specs.Reading.{known}
@@ -41,18 +41,19 @@ use Rattle.sheet.proofs.Lifted.{lost-bytes}
 use Rattle.sheet.proofs.StepLaws.{begins, enters}
 use Rattle.theorems.specs.Bounds.{Bytes, dropTop, interruptDropTop}
 use Rattle.theorems.proofs.Dropped.{Honest, honest, two-a-cycle}
-use Rattle.theorems.proofs.BoundsRules.{Within, within, short-of, cycles, dropped, MostOf, Drops, loud, seq, up, either-way, of-pure, of-get, of-registers, of-set, of-flag, of-psw, of-flags, of-halted, of-loop}
-use Rattle.theorems.proofs.BoundsOperands.{of-jumpFar}
+use Rattle.theorems.proofs.BoundsRules.{Within, within, short-of, cycles, dropped, Traits, Bound, Drops, loud, wild, seq, up, either-way, of-pure, of-get, of-registers, of-set, of-flag, of-psw, of-flags, of-halted, of-loop}
+use Rattle.theorems.proofs.BoundsOperands.{of-jumpFar, of-entered}
 use Rattle.theorems.proofs.BoundsGroups.{of-transfer, of-calculate, of-untrapped, of-multiply, of-convert, of-shift, of-bits, of-rol4, of-ror4, half-of-cl, of-field}
-use Rattle.theorems.proofs.BoundsFlow.{levelOf, of-stack, of-branch, of-conditional, of-interrupts, of-block, of-ports, of-control}
+use Rattle.theorems.proofs.BoundsFlow.{levelOf, of-stack, of-branch, of-conditional, of-interrupts, of-modes, of-block, of-ports, of-control}
+use Rattle.theorems.proofs.BoundsCards.{of-carding}
 use Rattle.theorems.proofs.BoundsReading.{levelAmong, Fine, ScannedTo, read}
 use Rattle.theorems.proofs.BoundsStep.{reads-fine}
 
 -- ---- a tree of few cycles drops few bytes
 
-twice : {s : Bool} {A : Type 0} {p : Act A} {n : ℕ} → MostOf s A p n → Drops A p (n * 2)
+twice : {s : Traits} {A : Type 0} {p : Act A} {n : ℕ} → Bound cycles s A p n → Drops A p (n * 2)
 unfolding exec run
-twice {A = A} {p = p} {n = n} m = record { at = λ w. go (runBy kept p w) (honest p kept w) (m .at w); quiet = loud }
+twice {A = A} {p = p} {n = n} m = record { at = λ w. go (runBy kept p w) (honest p kept w) (m .at w); quiet = loud; tame = wild }
   where
     go : (o : Outcome A) → Honest A o → Within cycles n (seen o) → Within dropped (n * 2) (seen o)
     go (refused k t) h (short-of f g) = short-of f g
@@ -61,20 +62,20 @@ twice {A = A} {p = p} {n = n} m = record { at = λ w. go (runBy kept p w) (hones
         let z : tally t .dropped ≤ n * 2 = omega arith in
         within z
 
-small : {s : Bool} {A : Type 0} {p : Act A} {n : ℕ} → n ≤ 256 → MostOf s A p n → Drops A p 512
+small : {s : Traits} {A : Type 0} {p : Act A} {n : ℕ} → n ≤ 256 → Bound cycles s A p n → Drops A p 512
 small h m = up (mul-le-mul-right 2 h) (twice m)
 
 -- ---- nodes
 
 of-peek : {b : Bool} {g o : ℕ} → Drops ℕ (peek b g o) 0
 unfolding exec run runBy tally
-of-peek = record { at = λ w. within (le-refl 0); quiet = loud }
+of-peek = record { at = λ w. within (le-refl 0); quiet = loud; tame = wild }
 
 of-poke : {b : Bool} {g o v : ℕ} → Drops Unit (poke b g o v) (bytesOf b)
 unfolding exec run runBy tally
 of-poke {b} {g} {o} =
     let h : (w : World) → lostBytes b (w .ram) g o + 0 ≤ bytesOf b = λ w. rw (add-zero (lostBytes b (w .ram) g o)) (lost-bytes b (w .ram) g o) in
-    record { at = λ w. within (h w); quiet = loud }
+    record { at = λ w. within (h w); quiet = loud; tame = wild }
 
 -- ---- the stack and traps
 
@@ -90,13 +91,13 @@ of-pushPsPc : Drops Unit pushPsPc 4
 unfolding pushPsPc
 of-pushPsPc = seq of-registers λ r. seq (of-push _) λ _. of-push _
 
-of-save : Drops Unit save 6
+of-save : {change : Act Unit} → Drops Unit change 0 → Drops Unit (save change) 6
 unfolding save
-of-save = seq of-pushPsw λ _. seq of-flags λ _. of-pushPsPc
+of-save h = seq of-pushPsw λ _. seq h λ _. of-pushPsPc
 
 of-trap : (v : ℕ) → Drops Unit (trap v) 6
-unfolding trap
-of-trap v = seq of-peek λ pc. seq of-peek λ ps. seq of-save λ _. twice (of-jumpFar ps pc)
+unfolding trap vectored
+of-trap v = seq of-peek λ pc. seq of-peek λ ps. seq (of-save (twice of-entered)) λ _. twice (of-jumpFar ps pc)
 
 of-interrupting : (v : ℕ) → Drops Unit (interrupting v) interruptDropTop
 unfolding interrupting
@@ -130,7 +131,6 @@ of-stacks PushPsw h = small (lit≤ tt) (of-stack PushPsw h)
 of-stacks PushR h = small (lit≤ tt) (of-stack PushR h)
 of-stacks (Pop to) h = small (lit≤ tt) (of-stack (Pop to) h)
 of-stacks (PopSegment seg) h = small (lit≤ tt) (of-stack (PopSegment seg) h)
-of-stacks PopPsw h = small (lit≤ tt) (of-stack PopPsw h)
 of-stacks PopR h = small (lit≤ tt) (of-stack PopR h)
 of-stacks (Prepare size level) h = of-prepare size level h
 of-stacks Dispose h = small (lit≤ tt) (of-stack Dispose h)
@@ -181,6 +181,8 @@ of-operation (Interrupts i) h start = small (lit≤ tt) (of-interrupts i)
 of-operation (Blocks k w seg q) h start = small (lit≤ tt) (of-untrapped (of-block k w seg q start))
 of-operation (Ports i) h start = small (lit≤ tt) (of-untrapped (of-ports i))
 of-operation (Controls i) h start = small (lit≤ tt) (of-untrapped (of-control i))
+of-operation (Modes i) h start = small (lit≤ tt) (of-untrapped (of-modes i))
+of-operation (Cards i) h start = small (lit≤ tt) (of-untrapped (of-carding i))
 
 of-execute : (i : Instr) → Fine i → (n : ℕ) → Drops Bool (execute i n) 512
 unfolding execute

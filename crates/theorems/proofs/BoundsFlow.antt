@@ -1,6 +1,7 @@
--- Bounds on the other groups: stack, branches, interrupts, block primitives, ports, control.
+-- Bounds on the other groups: stack, branches, interrupts, what writes MD, block primitives, ports, control.
 use Prim.Native.Nat.{ℕ, zero, suc, _+_, _*_, _/_, _%_, _≤_}
-use mathlib.Core.Bool.{Bool, true, false, _&&_}
+use mathlib.Core.Path.{refl, sym}
+use mathlib.Core.Bool.{Bool, true, false, _&&_, true≢false}
 use mathlib.Core.List.{List, [], _∷_}
 use native.Mathlib.Omega.{arith}
 use lib.ListN.{getD}
@@ -8,13 +9,15 @@ use lib.Dec.{eqb, lit≤}
 use Rattle.sheet.specs.declared.Place.{Place}
 use Rattle.sheet.specs.declared.Place.the-variants.{Register, Memory}
 use Rattle.sheet.specs.declared.Stack.{Stack}
-use Rattle.sheet.specs.declared.Stack.the-variants.{Push, PushByte, PushWord, PushSegment, PushPsw, PushR, Pop, PopSegment, PopPsw, PopR, Prepare, Dispose}
+use Rattle.sheet.specs.declared.Stack.the-variants.{Push, PushByte, PushWord, PushSegment, PushPsw, PushR, Pop, PopSegment, PopR, Prepare, Dispose}
 use Rattle.sheet.specs.declared.Branch.{Branch}
 use Rattle.sheet.specs.declared.Branch.the-variants.{CallNear, CallTo, CallFar, CallFarAt, Ret, RetPop, RetFar, RetFarPop, BrNear, BrShort, BrTo, BrFar, BrFarAt}
 use Rattle.sheet.specs.declared.Conditional.{Conditional}
 use Rattle.sheet.specs.declared.Conditional.the-variants.{If, Dbnzne, Dbnze, Dbnz, Bcwz}
 use Rattle.sheet.specs.declared.Interrupt.{Interrupt}
-use Rattle.sheet.specs.declared.Interrupt.the-variants.{Brk3, Brk, Brkv, Reti, Chkind}
+use Rattle.sheet.specs.declared.Interrupt.the-variants.{Brk3, Brk, Brkv, Chkind}
+use Rattle.sheet.specs.declared.Mode.{Mode}
+use Rattle.sheet.specs.declared.Mode.the-variants.{PopPsw, Reti, Brkem}
 use Rattle.sheet.specs.declared.Primitive.{Primitive}
 use Rattle.sheet.specs.declared.Primitive.the-variants.{Movbk, Cmpbk, Cmpm, Ldm, Stm, Inm, Outm}
 use Rattle.sheet.specs.declared.Repeat.{Repeat}
@@ -27,16 +30,16 @@ use Rattle.sheet.specs.declared.Control.{Control}
 use Rattle.sheet.specs.declared.Control.the-variants.{Nop, Halt, Di, Ei, ClrCy, SetCy, NotCy, ClrDir, SetDir}
 use Rattle.sheet.specs.Registers.{CW}
 use Rattle.sheet.specs.Act.{Act, pure}
-use Rattle.sheet.specs.Stack.{pushRegister, pushPlace, pushSegment, pushR, popPlace, popSegment, popPsw, popR, frame, frames, prepare, dispose, stack}
+use Rattle.sheet.specs.Stack.{pushRegister, pushPlace, pushSegment, pushR, popPlace, popSegment, popR, frame, frames, prepare, dispose, stack}
 use Rattle.sheet.specs.Branch.{jump, pushPc, callNear, callTo, callFar, callFarAt, release, ret, retPop, retFar, retFarPop, brTo, brFarAt, branch, lessOrEqual, conditions, asked, condition, jumpIf, branchIf, countDown, dbnzWhile, dbnz, bcwz, conditional}
-use Rattle.sheet.specs.Traps.{untrapped}
-use Rattle.sheet.specs.Interrupts.{brk, trapIf, brkv, reti, chkind, interrupts}
+use Rattle.sheet.specs.Interrupts.{brk, trapIf, brkv, chkind, interrupts}
+use Rattle.sheet.specs.Mode.{takeBack, popPsw, popReturn, reti, brkem, modes}
 use Rattle.sheet.specs.Block.{stepIndex, sourceElement, targetElement, setTarget, primitive, goesOn, goesOnAfter, afterElement, element, repeated, block}
 use Rattle.sheet.specs.Ports.{portNumber, ports}
 use Rattle.sheet.specs.Control.{control}
 use Rattle.theorems.specs.Repeat.{ofMemory}
-use Rattle.theorems.proofs.BoundsRules.{MostOf, Most, seq, any, up, either-way, of-pure, of-registers, of-set, of-flag, of-flags, of-halted, of-peek, of-poke, of-inp, of-out, of-loop}
-use Rattle.theorems.proofs.BoundsOperands.{of-regValue, of-setReg, of-locate, of-deposit, of-valueAt, of-pairAt, of-push, of-pop, of-popInto, of-pushPsw, of-pushPsPc, of-jumpFar, of-trap}
+use Rattle.theorems.proofs.BoundsRules.{traits, cycles, Bound, MostOf, Most, seq, any, up, either-way, of-pure, of-registers, of-set, of-flag, of-flags, of-halted, of-crossing, of-peek, of-poke, of-inp, of-out, of-loop}
+use Rattle.theorems.proofs.BoundsOperands.{of-regValue, of-setReg, of-locate, of-deposit, of-valueAt, of-pairAt, of-push, of-pop, of-popInto, of-pushPsw, of-pushPsPc, of-jumpFar, of-vectored, of-trap}
 
 -- ---- the stack
 
@@ -85,7 +88,6 @@ levelOf PushPsw = 0
 levelOf PushR = 0
 levelOf (Pop to) = 0
 levelOf (PopSegment seg) = 0
-levelOf PopPsw = 0
 levelOf PopR = 0
 levelOf (Prepare size level) = level
 levelOf Dispose = 0
@@ -100,7 +102,7 @@ level-top zero = lit≤ tt
 level-top (suc n) = lit≤ tt
 
 pub of-stack : (i : Stack) → levelOf i ≤ 255 → Most Unit (stack i) (levelTop (levelOf i))
-unfolding stack pushSegment popPlace popSegment popPsw dispose
+unfolding stack pushSegment popPlace popSegment dispose
 of-stack (Push from) h = up (lit≤ tt) (of-pushPlace from)
 of-stack (PushByte v) h = up (lit≤ tt) (of-push v)
 of-stack (PushWord v) h = up (lit≤ tt) (of-push v)
@@ -109,7 +111,6 @@ of-stack PushPsw h = up (lit≤ tt) of-pushPsw
 of-stack PushR h = up (lit≤ tt) of-pushR
 of-stack (Pop to) h = up (lit≤ tt) (seq of-pop λ v. seq (of-locate to) λ s. of-deposit true s v)
 of-stack (PopSegment seg) h = up (lit≤ tt) (of-popInto _)
-of-stack PopPsw h = up (lit≤ tt) (seq of-pop λ x. of-flags)
 of-stack PopR h = up (lit≤ tt) of-popR
 of-stack (Prepare size zero) h = up (lit≤ tt) (of-prepare-flat size)
 of-stack (Prepare size (suc n)) h = of-prepare size (suc n) h
@@ -193,9 +194,13 @@ of-dbnzWhile : (wanted : Bool) (disp : ℕ) → Most Unit (dbnzWhile wanted disp
 unfolding dbnzWhile
 of-dbnzWhile wanted disp = seq of-countDown λ b. seq of-flag λ z. of-jumpIf _ disp
 
+pub of-condition : (n : ℕ) → Most Bool (condition n) 0
+unfolding condition asked
+of-condition n = seq (of-getD conditions conditions-free (n / 2 % 8)) λ b. of-pure
+
 pub of-conditional : (i : Conditional) → Most Unit (conditional i) 0
-unfolding conditional branchIf condition asked dbnz bcwz
-of-conditional (If n disp) = seq (seq (of-getD conditions conditions-free (n / 2 % 8)) λ b. of-pure) λ b. of-jumpIf b disp
+unfolding conditional branchIf dbnz bcwz
+of-conditional (If n disp) = seq (of-condition n) λ b. of-jumpIf b disp
 of-conditional (Dbnzne disp) = of-dbnzWhile false disp
 of-conditional (Dbnze disp) = of-dbnzWhile true disp
 of-conditional (Dbnz disp) = seq of-countDown λ b. of-jumpIf b disp
@@ -211,17 +216,34 @@ of-trapIf : (b : Bool) (v : ℕ) → Most Bool (trapIf b v) 8
 unfolding trapIf
 of-trapIf b v = either-way b (of-brk v) (up (lit≤ tt) of-pure)
 
-of-reti : Most Unit reti 6
-unfolding reti
-of-reti = seq of-pop λ pc. seq of-pop λ ps. seq of-pop λ x. seq of-set λ _. seq of-set λ _. of-flags
-
 pub of-interrupts : (i : Interrupt) → Most Bool (interrupts i) 12
-unfolding interrupts untrapped brkv chkind
+unfolding interrupts brkv chkind
 of-interrupts Brk3 = up (lit≤ tt) (of-brk 3)
 of-interrupts (Brk v) = up (lit≤ tt) (of-brk v)
 of-interrupts Brkv = up (lit≤ tt) (seq of-flag λ b. of-trapIf b 4)
-of-interrupts Reti = up (lit≤ tt) (seq of-reti λ _. of-pure)
 of-interrupts (Chkind reg from) = seq (of-pairAt from) λ p. seq (of-regValue _ _) λ v. of-trapIf _ 5
+
+-- ---- what writes MD
+
+of-takeBack : (x : ℕ) → Most Unit (takeBack x) 0
+unfolding takeBack
+of-takeBack x = seq of-flags λ _. of-crossing λ e. refl
+
+pub of-popReturn : Most ℕ popReturn 6
+unfolding popReturn
+of-popReturn = seq of-pop λ pc. seq of-pop λ ps. seq of-pop λ x. seq of-set λ _. seq of-set λ _. of-pure
+
+-- BRKEM alone enters the 8080 mode
+abbrev pub staysNative : Mode → Bool
+staysNative PopPsw = true
+staysNative Reti = true
+staysNative (Brkem v) = false
+
+pub of-modes : (i : Mode) → Bound cycles (traits true (staysNative i)) Unit (modes i) 8
+unfolding modes popPsw reti brkem
+of-modes PopPsw = up (lit≤ tt) (seq of-pop λ x. of-takeBack x)
+of-modes Reti = up (lit≤ tt) (seq of-popReturn λ x. of-takeBack x)
+of-modes (Brkem v) = of-vectored (of-crossing λ e. absurd (true≢false (sym e))) v
 
 -- ---- block primitives
 

@@ -50,7 +50,7 @@ use Rattle.sheet.specs.Adjust.{adj4, adjb}
 use Rattle.sheet.specs.Decimal.{stores, link, chained, string, rol4, ror4, decimal}
 use Rattle.sheet.specs.Fields.{lengthOf, advance, insertInto, firstPart, secondPart, ins, window, ext, field}
 use Rattle.sheet.specs.Traps.{untrapped}
-use Rattle.theorems.proofs.BoundsRules.{Measure, Bound, Most, seq, any, up, either-way, of-pure, of-get, of-registers, of-set, of-flag, of-psw, of-flags, of-peek, of-poke, of-peek-byte, of-poke-byte, of-loop}
+use Rattle.theorems.proofs.BoundsRules.{Measure, Traits, Bound, Most, seq, any, up, either-way, of-pure, of-get, of-registers, of-set, of-flag, of-psw, of-flags, of-peek, of-poke, of-peek-byte, of-poke-byte, of-loop}
 use Rattle.theorems.proofs.BoundsOperands.{of-regValue, of-setReg, of-locate, of-fetch, of-deposit, of-valueAt, of-sourceValue, of-pairAt, of-amountOf, of-trap}
 
 -- ---- transfers
@@ -82,7 +82,7 @@ of-operate Sub w a b = of-pure
 of-operate Xor w a b = of-pure
 of-operate Cmp w a b = of-pure
 
-of-conclude : (op : Operation) (w : Bool) (s : Spot) (v : ℕ) → Most Unit (conclude op w s v) 2
+pub of-conclude : (op : Operation) (w : Bool) (s : Spot) (v : ℕ) → Most Unit (conclude op w s v) 2
 unfolding conclude
 of-conclude Add w s v = of-deposit w s v
 of-conclude Or w s v = of-deposit w s v
@@ -93,7 +93,7 @@ of-conclude Sub w s v = of-deposit w s v
 of-conclude Xor w s v = of-deposit w s v
 of-conclude Cmp w s v = up (lit≤ tt) of-pure
 
-of-finish : (w : Bool) (s : Spot) (r : Result) → Most Unit (finish w s r) 2
+pub of-finish : (w : Bool) (s : Spot) (r : Result) → Most Unit (finish w s r) 2
 unfolding finish
 of-finish w s r = seq of-flags λ _. of-deposit w s _
 
@@ -106,7 +106,7 @@ of-calculate (Test w left right) = up (lit≤ tt) (seq (of-valueAt w left) λ a.
 
 -- ---- products and quotients
 
-pub of-untrapped : {m : Measure} {s : Bool} {p : Act Unit} {n : ℕ} → Bound m s Unit p n → Bound m s Bool (untrapped p) (n + 0)
+pub of-untrapped : {m : Measure} {s : Traits} {p : Act Unit} {n : ℕ} → Bound m s Unit p n → Bound m s Bool (untrapped p) (n + 0)
 unfolding untrapped
 of-untrapped h = seq h λ _. any of-pure
 
@@ -169,7 +169,7 @@ of-convert Cvtwl = seq of-registers λ r. of-set
 
 -- ---- shifts and bits
 
-of-carryIn : (k : Shift) → Most Bool (carryIn k) 0
+pub of-carryIn : (k : Shift) → Most Bool (carryIn k) 0
 unfolding carryIn
 of-carryIn Rol = of-pure
 of-carryIn Ror = of-pure

@@ -1,6 +1,6 @@
 -- Bounds on what instructions are made of: operands, the stack, traps.
 use Prim.Native.Nat.{ℕ, _+_, _*_, _%_}
-use mathlib.Core.Path.{_≡_}
+use mathlib.Core.Path.{_≡_, refl}
 use mathlib.Core.Bool.{Bool}
 use native.Mathlib.Omega.{arith}
 use lib.Dec.{lit≤}
@@ -13,9 +13,10 @@ use Rattle.sheet.specs.declared.Spot.{Spot}
 use Rattle.sheet.specs.declared.Spot.the-variants.{InRegister, InMemory}
 use Rattle.sheet.specs.declared.Amount.{Amount}
 use Rattle.sheet.specs.declared.Amount.the-variants.{InCl, Given}
+use Rattle.sheet.specs.Act.{Act}
 use Rattle.sheet.specs.Operand.{regValue, setReg, locate, fetch, deposit, valueAt, sourceValue, pairAt, amountOf}
-use Rattle.sheet.specs.Traps.{push, pop, popInto, pushPsw, pushPsPc, jumpFar, save, trap}
-use Rattle.theorems.proofs.BoundsRules.{Most, seq, up, of-pure, of-registers, of-set, of-psw, of-flags, of-peek, of-poke, of-peek-even}
+use Rattle.sheet.specs.Traps.{push, pop, popInto, pushPsw, pushPsPc, jumpFar, save, vectored, entered, trap}
+use Rattle.theorems.proofs.BoundsRules.{Traits, cycles, Bound, Most, seq, any, up, of-pure, of-registers, of-set, of-psw, of-flags, of-crossing, of-peek, of-poke, of-peek-even}
 
 -- ---- operands
 
@@ -88,9 +89,9 @@ of-jumpFar ps pc = seq of-set λ _. of-set
 
 -- ---- traps: both words of a vector lie at even addresses
 
-pub of-save : Most Unit save 6
+of-save : {s : Traits} {change : Act Unit} → Bound cycles s Unit change 0 → Bound cycles s Unit (save change) 6
 unfolding save
-of-save = seq of-pushPsw λ _. seq of-flags λ _. of-pushPsPc
+of-save h = seq (any of-pushPsw) λ _. seq h λ _. any of-pushPsPc
 
 pub even-first : (v : ℕ) → 4 * v % 2 ≡ 0
 even-first v = omega arith
@@ -98,6 +99,14 @@ even-first v = omega arith
 pub even-second : (v : ℕ) → (4 * v + 2) % 2 ≡ 0
 even-second v = omega arith
 
+pub of-vectored : {s : Traits} {change : Act Unit} → Bound cycles s Unit change 0 → (v : ℕ) → Bound cycles s Unit (vectored change v) 8
+unfolding vectored
+of-vectored h v = seq (any (of-peek-even (even-first v))) λ pc. seq (any (of-peek-even (even-second v))) λ ps. seq (of-save h) λ _. any (of-jumpFar ps pc)
+
+pub of-entered : Most Unit entered 0
+unfolding entered
+of-entered = seq of-flags λ _. of-crossing λ e. refl
+
 pub of-trap : (v : ℕ) → Most Unit (trap v) 8
 unfolding trap
-of-trap v = seq (of-peek-even (even-first v)) λ pc. seq (of-peek-even (even-second v)) λ ps. seq of-save λ _. of-jumpFar ps pc
+of-trap v = of-vectored of-entered v

@@ -15,15 +15,15 @@ use Rattle.sheet.specs.declared.Stack.the-variants.{Prepare}
 use Rattle.sheet.specs.declared.Instr.{Instr}
 use Rattle.sheet.specs.Groups.{Stacks}
 use Rattle.sheet.specs.Width.{wrapOf, sub16}
-use Rattle.sheet.specs.Psw.{Flag, BRK, Effect, flagOf, fixedOf, entering}
+use Rattle.sheet.specs.Psw.{Flag, BRK, Effect, flagOf, nativeOf, fixedOf, entering, inMode, toNative}
 use Rattle.sheet.specs.Registers.{SP, BP, PC, PSW, File, fileOf}
 use Rattle.sheet.specs.Memory.{physical, byteAt, readMem, writeMem, busCycles, lost, lostBytes}
 use Rattle.sheet.specs.Memory as memory
-use Rattle.sheet.specs.World.{World, pswOf}
-use Rattle.sheet.specs.Act.{Act, pure, flags, _>>=_, registers, _≔_, flag, psw, peek, halted, loop}
+use Rattle.sheet.specs.World.{World, pswOf, crossed}
+use Rattle.sheet.specs.Act.{Act, pure, flags, _>>=_, registers, _≔_, flag, psw, peek, halted, crossing, loop}
 use Rattle.sheet.specs.Handler.{nothing, run, runBy, tally}
 use Rattle.sheet.specs.Contract.{Seen, ends, exec, Ends, report, reportOf}
-use Rattle.sheet.specs.Traps.{push, pushPsw, pushPsPc, jumpFar, save, trap, untrapped}
+use Rattle.sheet.specs.Traps.{push, pushPsw, pushPsPc, jumpFar, save, vectored, entered, trap, untrapped}
 use Rattle.sheet.specs.Stack.{frame, frames, prepare, stack, popIn}
 use Rattle.sheet.specs.Execute.{moving, operation, execute}
 use Rattle.sheet.specs.Reading as reading
@@ -35,7 +35,7 @@ use Rattle.theorems.specs.Bounds.{Finds, Odd, OddIn, Makes, Loses, stepT
 use Rattle.theorems.proofs.BoundsRules.{even-cycles}
 use Rattle.theorems.proofs.BoundsOperands.{even-first, even-second}
 use Rattle.theorems.proofs.BoundsStep.{step-is}
-use Rattle.sheet.proofs.Rules.{plus, andThen, exec-bind, ends-pure, ends-set, ends-flag, ends-psw, ends-flags, ends-halted}
+use Rattle.sheet.proofs.Rules.{plus, andThen, exec-bind, ends-pure, ends-set, ends-flag, ends-psw, ends-flags, ends-halted, ends-crossing}
 
 -- a tree hands on a after exactly n cycles, and leaves a world of which Q holds; where E holds, it has dropped exactly d bytes
 pub data Exactly {A : Type 0} (E : Type 0) (Q : World → Type 0) (n d : ℕ) (a : A) : Seen A → Type 0 where
@@ -192,18 +192,27 @@ module _ {E : Type 0} where
   unfolding pushPsPc
   of-pushPsPc w o = past _ w (next (push _) _ w (of-push _ w o) (λ a p. of-push _ a p))
 
-  of-save : (w : World) → Ready E w → Exactly E (Ready E) 6 6 tt (exec save w)
+  of-toNative : (w : World) → Ready E w → Exactly E (Ready E) 0 0 tt (exec (crossing toNative) w)
+  unfolding crossed
+  of-toNative w o =
+      ended (ends-crossing toNative) (record { odd = set-odd (w .state .file) PSW (inMode true (pswOf (w .state))) (o .odd) (λ l. absurd (omega arith)); bare = o .bare })
+
+  of-entered : (w : World) → Ready E w → Exactly E (Ready E) 0 0 tt (exec entered w)
+  unfolding entered
+  of-entered w o = next (flags entering (pure tt)) _ w (of-flags entering w o) (λ a p. of-toNative a p)
+
+  of-save : (w : World) → Ready E w → Exactly E (Ready E) 6 6 tt (exec (save entered) w)
   unfolding save
-  of-save w o = next pushPsw _ w (of-pushPsw w o) (λ a p. next (flags entering (pure tt)) _ a (of-flags entering a p) (λ b q. of-pushPsPc b q))
+  of-save w o = next pushPsw _ w (of-pushPsw w o) (λ a p. next entered _ a (of-entered a p) (λ b q. of-pushPsPc b q))
 
   of-leaving : (ps pc : ℕ) (w : World) → Exactly E (λ v. Unit {0}) 0 0 tt (exec (jumpFar ps pc) w)
   unfolding jumpFar exec run runBy tally _>>=_
   of-leaving ps pc w = exactly tt refl (λ _. refl)
 
   of-trap : (v : ℕ) (w : World) → Ready E w → Exactly E (λ x. Unit {0}) 8 6 tt (exec (trap v) w)
-  unfolding trap
+  unfolding trap vectored
   of-trap v w o =
-      next (peek true 0 (4 * v)) _ w (of-vector _ w (even-first v) o) (λ a p. next (peek true 0 (4 * v + 2)) _ a (of-vector _ a (even-second v) p) (λ b q. next save _ b (of-save b q) (λ c r. of-leaving _ _ c)))
+      next (peek true 0 (4 * v)) _ w (of-vector _ w (even-first v) o) (λ a p. next (peek true 0 (4 * v + 2)) _ a (of-vector _ a (even-second v) p) (λ b q. next (save entered) _ b (of-save b q) (λ c r. of-leaving _ _ c)))
 
   of-halted : (b : Bool) (w : World) → Exactly E (λ v. Unit {0}) 0 0 tt (exec (halted b) w)
   of-halted b w = ended (ends-halted b) tt
@@ -268,15 +277,15 @@ module _ (w : World) (size n : ℕ) (f : Finds w (prepareAt size) n) (o : OddIn 
 odd-there : (psw : ℕ) → OddIn (preparing psw)
 odd-there psw = record { whole = refl; sp = refl; bp = refl }
 
-found : (psw : ℕ) → fixedOf psw ≡ true → Finds (preparing psw) (prepareAt 0) 4
+found : (psw : ℕ) → fixedOf psw ≡ true → nativeOf psw ≡ true → Finds (preparing psw) (prepareAt 0) 4
 unfolding fits sound instructionIn scan instruction prefixed prefixOf afterPrefix lookUp word reading._>>=_ byteAt
-found psw e = record { fit = refl; good = rw e; up = refl; there = refl }
+found psw e m = record { fit = refl; good = rw (e, m); up = refl; there = rw m }
 
 pub reaches-1020 : Makes (preparing 0xf002) 1020
-reaches-1020 = prepare-1020 (preparing 0xf002) 0 4 (found 0xf002 refl) (odd-there 0xf002) refl
+reaches-1020 = prepare-1020 (preparing 0xf002) 0 4 (found 0xf002 refl refl) (odd-there 0xf002) refl
 
 pub reaches-1028 : Makes (preparing 0xf102) stepTop
-reaches-1028 = prepare-1028 (preparing 0xf102) 0 4 (found 0xf102 refl) (odd-there 0xf102) refl refl (lit≤ tt)
+reaches-1028 = prepare-1028 (preparing 0xf102) 0 4 (found 0xf102 refl refl) (odd-there 0xf102) refl refl (lit≤ tt)
 
 found-in-rom : Finds preparingInRom (prepareAt 0) 4
 unfolding fits sound instructionIn scan instruction prefixed prefixOf afterPrefix lookUp word reading._>>=_ byteAt

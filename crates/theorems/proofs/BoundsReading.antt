@@ -16,7 +16,9 @@ use Rattle.sheet.specs.declared.Io.{Io}
 use Rattle.sheet.specs.declared.Io.the-variants.{In, Out}
 use Rattle.sheet.specs.declared.Move.{Move}
 use Rattle.sheet.specs.declared.Move.the-variants.{Transfers, Stacks, Branches, Tests}
-use Rattle.sheet.specs.declared.Instr.the-variants.{Computes, Moves, Multiplies, Interrupts, Blocks, Ports, Controls}
+use Rattle.sheet.specs.declared.Instr.the-variants.{Computes, Moves, Multiplies, Interrupts, Blocks, Ports, Controls, Modes, Cards}
+use Rattle.sheet.specs.declared.cards.Card.{Card}
+use Rattle.sheet.specs.declared.cards.Card.the-variants as cards
 use Rattle.sheet.specs.Width.{pick}
 use Rattle.sheet.specs.Reading.{Reading, got, need, no, _>>=_, Read, known, unknown, scan, byte, word, immediate, signedByte, allow}
 use Rattle.sheet.specs.Encoding.{modField, memField, displacement, withDisplacement, withOffset, address, inMemory, place, memory, Row, covers, lookUp}
@@ -134,6 +136,16 @@ abbrev pub portIn : Io → ℕ
 portIn (In w port) = numberIn port
 portIn (Out w port) = numberIn port
 
+abbrev portInCard : Card → ℕ
+portInCard (cards.Transfers i) = 0
+portInCard (cards.Ports i) = portIn i
+portInCard (cards.Controls i) = 0
+portInCard (cards.Points i) = 0
+portInCard (cards.Calculates i) = 0
+portInCard (cards.Branches i) = 0
+portInCard (cards.Stacks i) = 0
+portInCard (cards.Modes i) = 0
+
 -- the level or the port; others have none
 abbrev pub byteIn : Instr → ℕ
 byteIn (Computes i) = 0
@@ -143,6 +155,8 @@ byteIn (Interrupts i) = 0
 byteIn (Blocks k w seg q) = 0
 byteIn (Ports i) = portIn i
 byteIn (Controls i) = 0
+byteIn (Modes i) = 0
+byteIn (Cards i) = portInCard i
 
 abbrev pub Fine : Instr → Type 0
 Fine i = byteIn i ≤ 255

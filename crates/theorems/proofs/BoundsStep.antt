@@ -12,31 +12,34 @@ use Rattle.sheet.specs.declared.Compute.{Compute}
 use Rattle.sheet.specs.declared.Compute.the-variants.{Calculates, Converts, Shifts, Bits, Decimals, Fields}
 use Rattle.sheet.specs.declared.Move.{Move}
 use Rattle.sheet.specs.declared.Move.the-variants.{Transfers, Stacks, Branches, Tests}
-use Rattle.sheet.specs.declared.Instr.the-variants.{Computes, Moves, Multiplies, Interrupts, Blocks, Ports, Controls}
+use Rattle.sheet.specs.declared.Instr.the-variants.{Computes, Moves, Multiplies, Interrupts, Blocks, Ports, Controls, Modes, Cards}
 use Rattle.sheet.specs.Width.{pick}
-use Rattle.sheet.specs.Psw.{IE, flagOf}
+use Rattle.sheet.specs.Psw.{IE, flagOf, nativeOf}
 use Rattle.sheet.specs.Registers.{PS, PC, fileOf}
 use Rattle.sheet.specs.World.{World, pswOf}
 use Rattle.sheet.specs.Handler.{Event, Outcome, done, kept, run, runBy, tally}
 use Rattle.sheet.specs.Contract.{Seen, stops, ends, seen, exec}
-use Rattle.sheet.specs.Reading.{Read, known, unknown}
+use Rattle.sheet.specs.Reading.{Reading, Read, known, unknown}
 use Rattle.sheet.specs.FirstByte.{instruction}
+use Rattle.sheet.specs.CardCodes.{cardInstruction}
 use Rattle.sheet.specs.Execute.{computing, moving, operation, execute}
 use Rattle.sheet.specs.Step.{fits, sound, checked, refusal, codeAt, source, interrupting, singleStep, starting, stepping, decoded, awake, stepBy, step, interruptBy, interrupt, instructionIn}
-use Rattle.sheet.specs.Act.{_>>=_}
-use Rattle.sheet.specs.Traps.{push, pushPsw, pushPsPc, jumpFar, save, trap}
+use Rattle.sheet.specs.Act.{Act, _>>=_}
+use Rattle.sheet.specs.Traps.{push, pushPsw, pushPsPc, jumpFar, save, vectored, entered, trap}
 use Rattle.theorems.specs.Repeat.{ofMemory}
 use Rattle.theorems.specs.Bounds.{Bytes, stepTop, interruptTop, stepRefusals, interruptRefusals, Among, first, later, Comes, ends-in, stops-by}
 use Rattle.log_record.proofs.Picked.{picked}
 use Rattle.engine.proofs.Laws.{awake-known}
 use Rattle.engine.proofs.RunLaws.{step-on}
 use Rattle.theorems.proofs.Widths.{byte-top}
-use Rattle.theorems.proofs.BoundsRules.{Within, within, cycles, short-of, MostOf, Most, seq, any, up, of-pure, of-registers, of-set, of-flag, of-halted}
+use Rattle.theorems.proofs.BoundsRules.{Within, within, cycles, short-of, traits, Bound, Most, seq, any, up, of-pure, of-registers, of-set, of-flag, of-halted}
 use Rattle.theorems.proofs.BoundsOperands.{of-trap}
 use Rattle.theorems.proofs.BoundsGroups.{of-transfer, of-calculate, of-untrapped, of-multiply, of-convert, of-shift, of-bits, of-decimal, of-field}
-use Rattle.theorems.proofs.BoundsFlow.{levelOf, level-top, of-stack, of-branch, of-conditional, of-interrupts, of-block, of-ports, of-control}
-use Rattle.theorems.proofs.BoundsReading.{levelAmong, Fine, ScannedTo, read, unread, scanned}
+use Rattle.theorems.proofs.BoundsFlow.{levelOf, level-top, of-stack, of-branch, of-conditional, of-interrupts, staysNative, of-modes, of-block, of-ports, of-control}
+use Rattle.theorems.proofs.BoundsCards.{portlessCard, of-carding}
+use Rattle.theorems.proofs.BoundsReading.{levelAmong, Fine, LeafTo, also-fourth, ScannedTo, read, unread, scanned}
 use Rattle.theorems.proofs.BoundsCodes.{of-instruction}
+use Rattle.theorems.proofs.CardsRead.{fine-named, of-cardInstruction}
 
 -- ---- an instruction
 
@@ -65,8 +68,25 @@ portless (Interrupts i) = true
 portless (Blocks k w seg q) = ofMemory k
 portless (Ports i) = false
 portless (Controls i) = true
+portless (Modes i) = true
+portless (Cards i) = portlessCard i
 
-pub of-operation : (i : Instr) → Fine i → (start : ℕ) → MostOf (portless i) Bool (operation i start) 1020
+-- it is not BRKEM
+abbrev pub nativeAfter : Instr → Bool
+nativeAfter (Computes i) = true
+nativeAfter (Moves i) = true
+nativeAfter (Multiplies i) = true
+nativeAfter (Interrupts i) = true
+nativeAfter (Blocks k w seg q) = true
+nativeAfter (Ports i) = true
+nativeAfter (Controls i) = true
+nativeAfter (Modes i) = staysNative i
+nativeAfter (Cards i) = true
+
+abbrev pub StepsIn : Instr → (A : Type 0) → Act A → ℕ → Type 0
+StepsIn i A p n = Bound cycles (traits (portless i) (nativeAfter i)) A p n
+
+pub of-operation : (i : Instr) → Fine i → (start : ℕ) → StepsIn i Bool (operation i start) 1020
 unfolding operation
 of-operation (Computes i) h start = of-untrapped (of-computing i)
 of-operation (Moves i) h start = of-untrapped (of-moving i h)
@@ -75,8 +95,10 @@ of-operation (Interrupts i) h start = up (lit≤ tt) (of-interrupts i)
 of-operation (Blocks k w seg q) h start = up (lit≤ tt) (of-untrapped (of-block k w seg q start))
 of-operation (Ports i) h start = up (lit≤ tt) (of-untrapped (of-ports i))
 of-operation (Controls i) h start = up (lit≤ tt) (of-untrapped (of-control i))
+of-operation (Modes i) h start = up (lit≤ tt) (of-untrapped (of-modes i))
+of-operation (Cards i) h start = up (lit≤ tt) (of-untrapped (of-carding i))
 
-of-execute : (i : Instr) → Fine i → (n : ℕ) → MostOf (portless i) Bool (execute i n) 1020
+of-execute : (i : Instr) → Fine i → (n : ℕ) → StepsIn i Bool (execute i n) 1020
 unfolding execute
 of-execute i h n = seq (any of-registers) λ r. seq (any of-set) λ _. of-operation i h _
 
@@ -89,7 +111,7 @@ unfolding singleStep
 of-singleStep false = up (lit≤ tt) of-pure
 of-singleStep true = of-interrupting 1
 
-pub of-stepping : (i : Instr) → Fine i → (n : ℕ) → MostOf (portless i) Unit (stepping i n) stepTop
+pub of-stepping : (i : Instr) → Fine i → (n : ℕ) → StepsIn i Unit (stepping i n) stepTop
 unfolding stepping
 of-stepping i h n = seq (any of-flag) λ traced. seq (of-execute i h n) λ trapped. any (of-singleStep _)
 
@@ -97,7 +119,11 @@ of-stepping i h n = seq (any of-flag) λ traced. seq (of-execute i h n) λ trapp
 
 pub reads-fine : (w : World) → Bytes (w .ram) → Bytes (w .rom) → ScannedTo 4 Fine (instructionIn w)
 unfolding instructionIn
-reads-fine w h g = scanned instruction of-instruction (source w) (λ j. byte-top (w .ram) (w .rom) h g (codeAt (fileOf (w .state .file) PS) (fileOf (w .state .file) PC) j)) 0
+reads-fine w h g =
+    let md : Bool = nativeOf (pswOf (w .state)) in
+    let leaves : LeafTo 4 Fine (pick md instruction cardInstruction) =
+    picked (λ (r : Reading Instr). LeafTo 4 Fine r) md of-instruction (also-fourth cardInstruction (of-cardInstruction λ c n. fine-named n)) in
+    scanned (pick md instruction cardInstruction) leaves (source w) (λ j. byte-top (w .ram) (w .rom) h g (codeAt (fileOf (w .state .file) PS) (fileOf (w .state .file) PC) j)) 0
 
 -- ---- the calls
 
@@ -143,7 +169,7 @@ step-comes w h g = checked-comes w (awake kept w) (go (w .state .marks .halted) 
 
 -- a trap from outside is never refused
 interrupting-ends : (v : ℕ) (w : World) → (x : World) × (m : Bus) × (exec (interrupting v) w ≡ ends tt x m)
-unfolding interrupting trap save pushPsw pushPsPc jumpFar push _>>=_ exec run runBy
+unfolding interrupting trap vectored entered save pushPsw pushPsPc jumpFar push _>>=_ exec run runBy
 interrupting-ends v w = (_, _, refl)
 
 ends-most : (n : ℕ) (x : World) (m : Bus) → Within {A = Unit {0}} cycles n (ends tt x m) → m .cycles ≤ n

@@ -12,21 +12,23 @@ use Rattle.sheet.specs.declared.Bus.{Bus}
 use Rattle.sheet.specs.declared.Entry.{Entry}
 use Rattle.sheet.specs.declared.Entry.the-variants as entry
 use Rattle.sheet.specs.Width.{wrapOf}
-use Rattle.sheet.specs.Psw.{settled}
+use Rattle.sheet.specs.Psw.{settled, inMode}
 use Rattle.sheet.specs.Registers.{AW, SP}
 use Rattle.sheet.specs.Memory.{byteAt, readMem, writeMem, busCycles, lost, lostBytes}
 use Rattle.sheet.specs.Act.{_>>=_}
-use Rattle.sheet.specs.World.{World}
+use Rattle.sheet.specs.World.{World, crossed}
 use Rattle.sheet.specs.Handler.{Event, done, runBy, nothing, tally}
 use Rattle.sheet.specs.Contract.{Report, report}
 use Rattle.sheet.specs.declared.GapRule.{GapRule}
 use Rattle.sheet.specs.Log.{entryOf, readLog, entryNumber}
-use Rattle.sheet.specs.Traps.{push, pushPsw, pushPsPc, jumpFar, save, trap}
+use Rattle.sheet.specs.Traps.{push, pushPsw, pushPsPc, jumpFar, save, vectored, trap}
+use Rattle.sheet.specs.Traps as traps
 use Rattle.sheet.specs.Step.{fits, sound, awake, stepBy, step, stepReport, interrupting, interruptBy, interrupt, interruptReport}
 use Rattle.sheet.proofs.SmallTable.{small-table}
 use Rattle.log_record.proofs.Vectors.{sample-first}
 use Rattle.theorems.specs.Bounds.{Bytes}
 use Rattle.sheet.specs.Lendable.{every, lendable}
+use Rattle.mach_tally.specs.Sums.{cyclesOnly}
 use Rattle.theorems.specs.StandIns.{MeetsStep, MeetsInterrupt, MeetsReader, numberOf, worldOf, busOf, subtracting, subtracted, adjusting, adjusted, asleep, callable, entered, masked, sampleLog}
 
 -- ---- buffers
@@ -52,10 +54,10 @@ asleep-refused = refl
 -- ---- step
 
 module _ (engine : World → Report) (meets : MeetsStep engine) where
-  at-subtracting : engine subtracting ≡ report 0 subtracted (record { cycles = 3; dropped = 0 })
+  at-subtracting : engine subtracting ≡ report 0 subtracted (cyclesOnly 3)
   at-subtracting = sym (meets subtracting refl) ∙ small-table .sub4s
 
-  at-adjusting : engine adjusting ≡ report 0 adjusted (record { cycles = 0; dropped = 0 })
+  at-adjusting : engine adjusting ≡ report 0 adjusted (cyclesOnly 0)
   at-adjusting = sym (meets adjusting refl) ∙ small-table .adj4a
 
   at-asleep : engine asleep ≡ report 8 asleep nothing
@@ -101,8 +103,8 @@ module _ (engine : World → Report) (meets : MeetsStep engine) where
 
 -- ---- an interrupt call
 
-pub takes-it : interruptReport 0 false callable ≡ report 0 entered (record { cycles = 5; dropped = 0 })
-unfolding interruptReport interrupt interruptBy fits sound interrupting trap save pushPsw pushPsPc jumpFar push _>>=_ runBy tally wrapOf settled readMem writeMem byteAt busCycles lost lostBytes
+pub takes-it : interruptReport 0 false callable ≡ report 0 entered (cyclesOnly 5)
+unfolding interruptReport interrupt interruptBy fits sound interrupting trap vectored traps.entered save pushPsw pushPsPc jumpFar push _>>=_ runBy crossed inMode tally wrapOf settled readMem writeMem byteAt busCycles lost lostBytes
 takes-it = refl
 
 pub is-masked : interruptReport 0 true masked ≡ report 7 masked nothing
@@ -110,7 +112,7 @@ unfolding interruptReport interrupt interruptBy fits sound
 is-masked = refl
 
 module _ (engine : ℕ → Bool → World → Report) (meets : MeetsInterrupt engine) where
-  at-callable : engine 0 false callable ≡ report 0 entered (record { cycles = 5; dropped = 0 })
+  at-callable : engine 0 false callable ≡ report 0 entered (cyclesOnly 5)
   at-callable = sym (meets 0 false callable (lit≤ tt) refl) ∙ takes-it
 
   at-masked : engine 0 true masked ≡ report 7 masked nothing

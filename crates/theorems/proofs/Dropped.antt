@@ -9,8 +9,8 @@ use Rattle.sheet.specs.Width.{bytesOf, wrapOf}
 use Rattle.sheet.specs.Psw.{Choice, flagOf, settled}
 use Rattle.sheet.specs.Registers.{fileOf, written}
 use Rattle.sheet.specs.Memory.{readMem, writeMem, lostBytes}
-use Rattle.sheet.specs.World.{World, withState, withRam, pswOf, withFile, withPsw, withHalted}
-use Rattle.sheet.specs.Act.{Act, pure, refuse, get, put, ask, copy, flags, load, store, input, output, halt}
+use Rattle.sheet.specs.World.{World, withState, withRam, pswOf, withFile, withPsw, withHalted, crossed}
+use Rattle.sheet.specs.Act.{Act, pure, refuse, get, put, ask, copy, flags, load, store, input, output, halt, cross}
 use Rattle.sheet.specs.Handler.{Access, short, through, inputs, outputs, Event, reads, writes, takes, gives, asks, copies, changes, Outcome, refused, done, then, ported, kept, runBy, happened, cost, tally}
 use Rattle.sheet.proofs.Reach.{Each}
 use Rattle.sheet.specs.Step.{interrupting, starting, stepping, step, interrupt}
@@ -49,6 +49,7 @@ honest (store b g o v p) u w = then-honest (writes b g o v (lostBytes b (w .ram)
 honest (input b n k) u w = ported-honest (inputs b n w) _ (λ v w′. then-honest (takes b n v) _ (lit≤ tt) (honest (k v) u w′))
 honest (output b n v p) u w = ported-honest (outputs b n v w) _ (λ x w′. then-honest (gives b n v) _ (lit≤ tt) (honest p u w′))
 honest (halt b p) u w = honest p u (withState w (withHalted (w .state) b))
+honest (cross c p) u w = honest p u (withState w (crossed c (w .state)))
 
 -- ---- their sums
 

@@ -1,4 +1,5 @@
 pub mod Quiet
+pub mod Tame
 pub mod Widths
 pub mod RepeatRuns
 pub mod RepeatCount
@@ -10,6 +11,7 @@ pub mod RepeatSingles
 pub mod Repeat
 pub mod RepeatOnce
 pub mod RepeatExample
+pub mod RepeatModes
 pub mod RepeatWrong
 pub mod RepeatCode
 pub mod RepeatEnds
@@ -18,11 +20,18 @@ pub mod BoundsRules
 pub mod BoundsOperands
 pub mod BoundsGroups
 pub mod BoundsFlow
+pub mod BoundsCards
 pub mod BoundsReading
 pub mod BoundsCodes
+pub mod CardsRead
 pub mod BoundsStep
 pub mod BoundsPrepare
 pub mod PortOnce
+pub mod PortRow
+pub mod ModesNative
+pub mod ModesBack
+pub mod ModesRules
+pub mod ModesCards
 pub mod Log
 pub mod Dropped
 pub mod BoundsDropped

@@ -17,7 +17,7 @@ use Rattle.log_record.proofs.Whole.{written-read}
 use Rattle.log_record.proofs.Growth.{log-grows}
 use Rattle.sheet.specs.Lendable.{lendable}
 use Rattle.theorems.specs.Rows.{Use, none, access, useOf, rowOf, rowsOfUse, sinceUse, rowsOf, since, rowsAlong, sinceAlong, stepsFrom, worldAfter}
-use Rattle.theorems.proofs.PortOnce.{AtMostOne, no-row, one-row, step-row}
+use Rattle.theorems.proofs.PortRow.{AtMostOne, no-row, one-row, step-row}
 
 -- ---- the used part of a log
 

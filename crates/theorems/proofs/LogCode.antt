@@ -8,11 +8,11 @@ use lib.ListN.{take}
 use Rattle.sheet.specs.declared.Bus.{Bus}
 use Rattle.sheet.specs.Width.{pick}
 use Rattle.sheet.specs.Log.{rule}
-use Rattle.sheet.specs.World.{World, world}
+use Rattle.sheet.specs.World.{World, world, crossed}
 use Rattle.sheet.specs.Handler.{Event, Outcome, refused, done, kept, runBy}
 use Rattle.sheet.specs.Act.{_>>=_}
 use Rattle.sheet.specs.Contract.{seen, report, reportOf}
-use Rattle.sheet.specs.Traps.{push, pushPsw, pushPsPc, jumpFar, save, trap}
+use Rattle.sheet.specs.Traps.{push, pushPsw, pushPsPc, jumpFar, save, vectored, entered, trap}
 use Rattle.sheet.specs.Step.{fits, sound, step, stepBy, stepReport, interrupting, interrupt, interruptReport, reset}
 use Rattle.sheet.specs.Run.{FinishedStep, begunIn, Ran, ran, more, onward, stepsBy, runsBy, runs, runReported, ranReport}
 use Rattle.sheet.proofs.StepLaws.{enters}
@@ -123,7 +123,7 @@ record SameLog (w v : World) : Type 0 where
   count : v .state .progress .count ≡ w .state .progress .count
 
 interrupting-keeps : (x : ℕ) (w v : World) (t : List Event) → runBy kept (interrupting x) w ≡ done tt v t → SameLog w v
-unfolding interrupting trap save pushPsw pushPsPc jumpFar push _>>=_ runBy
+unfolding interrupting trap vectored entered save pushPsw pushPsPc jumpFar push _>>=_ runBy crossed
 interrupting-keeps x w v t e = record { log = sym (ap (logOf w) e); place = sym (ap (placeOf w) e); count = sym (ap (countOf w) e) }
 
 interrupted : (x : ℕ) (m : Bool) (w v : World) (o : Outcome Unit) (n : ℕ) (b : Bus) → interrupt x m w ≡ o → reportOf w (seen o) ≡ report n v b → SameLog w v

@@ -1,7 +1,7 @@
 -- Each number is given exactly when document 01's table says so: every call comes to a row whose condition holds, and to no other.
 use Prim.Native.Nat.{ℕ, zero, suc, _+_, _≤_, _<_}
 use mathlib.Core.Path.{_≡_, refl, sym, ap, subst, _∙_}
-use mathlib.Core.Bool.{Bool, true, false, not, _&&_, and-eq-true-iff}
+use mathlib.Core.Bool.{Bool, true, false, not, _&&_, _||_, and-eq-true-iff, true≢false}
 use mathlib.Core.List.{List, []}
 use mathlib.Core.Option.{Option, none, some}
 use native.Mathlib.Nat.{add-zero}
@@ -16,7 +16,7 @@ use Rattle.sheet.specs.declared.Found.the-variants as found
 use Rattle.sheet.specs.declared.Entry.{Entry}
 use Rattle.sheet.specs.declared.Entry.the-variants as entry
 use Rattle.sheet.specs.Width.{pick}
-use Rattle.sheet.specs.Psw.{IE, flagOf, fixedOf}
+use Rattle.sheet.specs.Psw.{IE, flagOf, nativeOf, fixedOf}
 use Rattle.sheet.specs.Registers.{PS, PC, fileOf}
 use Rattle.sheet.specs.declared.GapRule.{GapRule}
 use Rattle.sheet.specs.Log.{ceiling, rule, recordAt, entryOf, readLog}
@@ -27,17 +27,19 @@ use Rattle.sheet.specs.Reading as reading
 use Rattle.sheet.specs.Reading.{Read, known, unknown, scan}
 use Rattle.sheet.specs.Encoding.{Prefix, unprefixed, withPrefix, prefixOf, lookUp}
 use Rattle.sheet.specs.FirstByte.{firstBytes, afterPrefix, prefixed, instruction}
-use Rattle.sheet.specs.Step.{fits, placesGood, sound, refusal, source, codeAt, starting, stepping, decoded, awake, stepBy, step, interrupting, interruptBy, interrupt, instructionIn}
+use Rattle.sheet.specs.CardCodes.{cardInstruction}
+use Rattle.sheet.specs.Step.{fits, pswGood, placesGood, sound, refusal, source, codeAt, starting, stepping, decoded, awake, stepBy, step, interrupting, interruptBy, interrupt, instructionIn}
 use Rattle.log_record.proofs.Records.{end-empty}
 use Rattle.log_record.proofs.Whole.{end-read}
 use Rattle.theorems.specs.Bounds.{Bytes}
 use Rattle.theorems.specs.Rows.{Use}
 use Rattle.theorems.specs.Access.{accessOf, tapeNeed, logNeed}
-use Rattle.theorems.specs.Outcomes.{space, Unsound, fixed-bit, tape-place, log-place, count-over, marked-and-halted, Passes, IsPrefix, StepOf, too-large, unsound, asleep, fourth-prefix, no-instruction, short-tape, full-log, finished, InterruptOf, call-too-large, call-unsound, held, masked, taken, ReadOf, beyond, malformed, at-end, met}
+use Rattle.theorems.specs.Outcomes.{space, Unsound, fixed-bit, mode-unwritable, tape-place, log-place, count-over, marked-and-halted, Passes, IsPrefix, StepOf, too-large, unsound, asleep, fourth-prefix, no-instruction, short-tape, full-log, finished, InterruptOf, call-too-large, call-unsound, held, masked, taken, ReadOf, beyond, malformed, at-end, met}
 use Rattle.theorems.proofs.Quiet.{Silent, silent, quiet-silent}
 use Rattle.theorems.proofs.Widths.{byte-top}
 use Rattle.theorems.proofs.BoundsReading.{Fine, ScannedTo, read, unread, scanned}
 use Rattle.theorems.proofs.BoundsCodes.{of-code}
+use Rattle.theorems.proofs.CardsRead.{fine-named, of-cardInstruction}
 use Rattle.theorems.proofs.BoundsStep.{of-interrupting, reads-fine, step-is}
 use Rattle.theorems.proofs.PortOnce.{Comes, tape-short, log-short, goes, ComesIn, not-so, passes, stepping-comes, fine-read}
 
@@ -49,18 +51,24 @@ data Checked (w : World) : Bool → Bool → Type 0 where
   wrong : length (w .ram) + length (w .rom) ≤ space → Unsound w → Checked w true false
   fine : Passes w → Checked w true true
 
+neither : (a b : Bool) → (a || b) ≡ false → (a ≡ false) × (b ≡ false)
+neither true b e = absurd (true≢false e)
+neither false true e = absurd (true≢false e)
+neither false false e = (refl, refl)
+
 unsound-of : (w : World) → sound w ≡ false → Unsound w
 unfolding sound
-unsound-of w e = go (fixedOf (pswOf (w .state))) (leb (w .state .progress .tape) (length (w .tape))) (leb (w .state .progress .log) (length (w .log))) (leb (w .state .progress .count) (ceiling rule)) (w .state .marks .halted && w .state .marks .loaded) refl refl refl refl refl e
+unsound-of w e = go (fixedOf (pswOf (w .state))) (nativeOf (pswOf (w .state)) || w .state .marks .writable) (leb (w .state .progress .tape) (length (w .tape))) (leb (w .state .progress .log) (length (w .log))) (leb (w .state .progress .count) (ceiling rule)) (w .state .marks .halted && w .state .marks .loaded) refl refl refl refl refl refl e
   where
-    go : (a b c d m : Bool) → fixedOf (pswOf (w .state)) ≡ a → leb (w .state .progress .tape) (length (w .tape)) ≡ b → leb (w .state .progress .log) (length (w .log)) ≡ c
-        → leb (w .state .progress .count) (ceiling rule) ≡ d → (w .state .marks .halted && w .state .marks .loaded) ≡ m → (a && ((b && (c && d)) && not m)) ≡ false → Unsound w
-    go false b c d m p q r s x z = fixed-bit p
-    go true false c d m p q r s x z = tape-place (leb-false _ _ q)
-    go true true false d m p q r s x z = log-place (leb-false _ _ r)
-    go true true true false m p q r s x z = count-over (leb-false _ _ s)
-    go true true true true true p q r s x z = marked-and-halted x
-    go true true true true false p q r s x z = absurd (let y : _≡_ {A = ℕ} 0 1 = cc in omega arith)
+    go : (a n b c d m : Bool) → fixedOf (pswOf (w .state)) ≡ a → (nativeOf (pswOf (w .state)) || w .state .marks .writable) ≡ n → leb (w .state .progress .tape) (length (w .tape)) ≡ b → leb (w .state .progress .log) (length (w .log)) ≡ c
+        → leb (w .state .progress .count) (ceiling rule) ≡ d → (w .state .marks .halted && w .state .marks .loaded) ≡ m → ((a && n) && ((b && (c && d)) && not m)) ≡ false → Unsound w
+    go false n b c d m p i q r s x z = fixed-bit p
+    go true false b c d m p i q r s x z = let (y, k) = neither (nativeOf (pswOf (w .state))) (w .state .marks .writable) i in mode-unwritable y k
+    go true true false c d m p i q r s x z = tape-place (leb-false _ _ q)
+    go true true true false d m p i q r s x z = log-place (leb-false _ _ r)
+    go true true true true false m p i q r s x z = count-over (leb-false _ _ s)
+    go true true true true true true p i q r s x z = marked-and-halted x
+    go true true true true true false p i q r s x z = absurd (let y : _≡_ {A = ℕ} 0 1 = cc in omega arith)
 
 checks : (w : World) → Checked w (fits w) (sound w)
 unfolding fits
@@ -86,14 +94,17 @@ and-false false = refl
 pub sound-not : (w : World) → Unsound w → sound w ≡ false
 unfolding sound
 sound-not w (fixed-bit e) = rw e
-sound-not w (tape-place h) = rw (lt-leb (w .state .progress .tape) (length (w .tape)) h) (and-false (fixedOf (pswOf (w .state))))
-sound-not w (log-place h) = rw (lt-leb (w .state .progress .log) (length (w .log)) h, and-false (leb (w .state .progress .tape) (length (w .tape)))) (and-false (fixedOf (pswOf (w .state))))
-sound-not w (marked-and-halted h) = rw (h, and-false (placesGood (w .state) (w .tape) (w .log))) (and-false (fixedOf (pswOf (w .state))))
-sound-not w (count-over h) = rw (lt-leb (w .state .progress .count) (ceiling rule) h, and-false (leb (w .state .progress .log) (length (w .log))), and-false (leb (w .state .progress .tape) (length (w .tape)))) (and-false (fixedOf (pswOf (w .state))))
+sound-not w (mode-unwritable m y) =
+    let n : (nativeOf (pswOf (w .state)) || w .state .marks .writable) ≡ false = rw (m, y) in
+    rw (n, and-false (fixedOf (pswOf (w .state))))
+sound-not w (tape-place h) = rw (lt-leb (w .state .progress .tape) (length (w .tape)) h) (and-false (pswGood (w .state)))
+sound-not w (log-place h) = rw (lt-leb (w .state .progress .log) (length (w .log)) h, and-false (leb (w .state .progress .tape) (length (w .tape)))) (and-false (pswGood (w .state)))
+sound-not w (marked-and-halted h) = rw (h, and-false (placesGood (w .state) (w .tape) (w .log))) (and-false (pswGood (w .state)))
+sound-not w (count-over h) = rw (lt-leb (w .state .progress .count) (ceiling rule) h, and-false (leb (w .state .progress .log) (length (w .log))), and-false (leb (w .state .progress .tape) (length (w .tape)))) (and-false (pswGood (w .state)))
 
 sound-so : (w : World) → Passes w → sound w ≡ true
 unfolding sound
-sound-so w p = rw (p .fixed, le-leb _ _ (p .tape-in), le-leb _ _ (p .log-in), le-leb _ _ (p .count-in), p .marks-in)
+sound-so w p = rw (p .fixed, p .mode-in, le-leb _ _ (p .tape-in), le-leb _ _ (p .log-in), le-leb _ _ (p .count-in), p .marks-in)
 
 -- ---- prefixes
 
@@ -142,19 +153,28 @@ fourth-met (suc room) p src i h =
     let (n, q) = fourth-met room (withPrefix p x) src (i + 1) later in
     (n, subst (λ (o : Option Prefix). scan (afterPrefix o (λ x. prefixed room (withPrefix p x)) (lookUp (firstBytes p) (src i))) src (i + 1) ≡ unknown 4 n) (sym e) q)
 
+-- in the 8080 mode no 4 is given
+abbrev OpenedIn : Bool → (ℕ → ℕ) → Read Instr → Type 0
+OpenedIn true src r = Opened 3 src 0 r
+OpenedIn false src r = ScannedTo 3 Fine r
+
 source-top : (w : World) → Bytes (w .ram) → Bytes (w .rom) → (j : ℕ) → source w j ≤ 255
 source-top w h g j = byte-top (w .ram) (w .rom) h g (codeAt (fileOf (w .state .file) PS) (fileOf (w .state .file) PC) j)
 
-opened-all : (w : World) → Bytes (w .ram) → Bytes (w .rom) → Opened 3 (source w) 0 (instructionIn w)
+opened-all : (w : World) → Bytes (w .ram) → Bytes (w .rom) → OpenedIn (nativeOf (pswOf (w .state))) (source w) (instructionIn w)
 unfolding instructionIn instruction
-opened-all w h g = opened 3 unprefixed (source w) (source-top w h g) 0
+opened-all w h g = go (nativeOf (pswOf (w .state)))
+  where
+    go : (md : Bool) → OpenedIn md (source w) (scan (pick md instruction cardInstruction) (source w) 0)
+    go true = opened 3 unprefixed (source w) (source-top w h g) 0
+    go false = scanned cardInstruction (of-cardInstruction λ c n. fine-named n) (source w) (source-top w h g) 0
 
 from-zero : (src : ℕ → ℕ) → ((j : ℕ) → j < 4 → IsPrefix (src j)) → (j : ℕ) → j < 4 → IsPrefix (src (0 + j))
 from-zero src h j l = let z : j ≡ 0 + j = omega arith in subst (λ k. IsPrefix (src k)) z (h j l)
 
-fourth-all : (w : World) → ((j : ℕ) → j < 4 → IsPrefix (source w j)) → (n : ℕ) × (instructionIn w ≡ unknown 4 n)
+fourth-all : (w : World) → nativeOf (pswOf (w .state)) ≡ true → ((j : ℕ) → j < 4 → IsPrefix (source w j)) → (n : ℕ) × (instructionIn w ≡ unknown 4 n)
 unfolding instructionIn instruction
-fourth-all w h = fourth-met 3 unprefixed (source w) 0 (from-zero (source w) h)
+fourth-all w m h = rw m (fourth-met 3 unprefixed (source w) 0 (from-zero (source w) h))
 
 -- ---- a step is of a row
 
@@ -168,12 +188,13 @@ module _ (w : World) (p : Passes w) (up : w .state .marks .halted ≡ false) whe
   executed i n r (done tt v t) e (goes g h q) = finished p up r g h e
 
   -- by what was read
-  was-read : (r : Read Instr) → instructionIn w ≡ r → ScannedTo 4 Fine r → Opened 3 (source w) 0 r → StepOf w (seen (decoded kept r w))
+  was-read : (r : Read Instr) → instructionIn w ≡ r → ScannedTo 4 Fine r → (md : Bool) → nativeOf (pswOf (w .state)) ≡ md → OpenedIn md (source w) r → StepOf w (seen (decoded kept r w))
   unfolding decoded
-  was-read (known i n) e (read f) o = executed i n e (runBy kept (stepping i n) (starting i w)) refl (stepping-comes w p i f n)
-  was-read (unknown k n) e (unread a b) (by-table (unread c d)) = let z : k ≡ 3 = omega arith in rw z (no-instruction p up (rw z at e))
-  was-read (unknown k n) e (unread a b) (by-prefix y h) =
-      rw y (fourth-prefix p up λ j l. (let z : 0 + j ≡ j = omega arith in subst (λ i. IsPrefix (source w i)) z (h j l)))
+  was-read (known i n) e (read f) md q o = executed i n e (runBy kept (stepping i n) (starting i w)) refl (stepping-comes w p i f n)
+  was-read (unknown k n) e (unread a b) false q (unread c d) = let z : k ≡ 3 = omega arith in rw z (no-instruction p up (rw z at e))
+  was-read (unknown k n) e (unread a b) true q (by-table (unread c d)) = let z : k ≡ 3 = omega arith in rw z (no-instruction p up (rw z at e))
+  was-read (unknown k n) e (unread a b) true q (by-prefix y h) =
+      rw y (fourth-prefix p up q λ j l. (let z : 0 + j ≡ j = omega arith in subst (λ i. IsPrefix (source w i)) z (h j l)))
 
 -- STEP: it comes to a row
 pub step-is-of : (w : World) → Bytes (w .ram) → Bytes (w .rom) → StepOf w (seen (step w))
@@ -185,7 +206,7 @@ step-is-of w h g = go (fits w) (sound w) (w .state .marks .halted) refl (checks 
     go false s a e (over l) = too-large l
     go true false a e (wrong l u) = unsound l u
     go true true true e (fine p) = asleep p e
-    go true true false e (fine p) = was-read w p e (instructionIn w) refl (reads-fine w h g) (opened-all w h g)
+    go true true false e (fine p) = was-read w p e (instructionIn w) refl (reads-fine w h g) (nativeOf (pswOf (w .state))) refl (opened-all w h g)
 
 -- ---- and of no other
 
@@ -211,7 +232,7 @@ module _ (w : World) (h : Bytes (w .ram)) (g : Bytes (w .rom)) where
   step-only (too-large l) = rw (fits-not w l)
   step-only (unsound l u) = rw (fits-so w l, sound-not w u)
   step-only (asleep p e) = rw (fits-so w (p .fit), sound-so w p, e)
-  step-only (fourth-prefix p e q) = rw (fits-so w (p .fit), sound-so w p, fourth-all w q .1, e)
+  step-only (fourth-prefix p e m q) = rw (fits-so w (p .fit), sound-so w p, fourth-all w m q .1, e)
   step-only (no-instruction p e r) = rw (fits-so w (p .fit), sound-so w p, r, e)
   step-only (short-tape {i = i} {n = n} p e r l) = made p e r ∙ stops-by-5 (stepping-comes w p i (fine-of r) n) l
   step-only (full-log {i = i} {n = n} p e r k l) = made p e r ∙ stops-by-6 (stepping-comes w p i (fine-of r) n) k l

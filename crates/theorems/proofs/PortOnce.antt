@@ -2,7 +2,7 @@
 use Prim.Native.Nat.{ℕ, _+_, _%_, _≤_, _<_}
 use mathlib.Core.Path.{_≡_, refl, sym, ap, subst, _∙_}
 use mathlib.Core.Bool.{Bool, true, false, not, _&&_, and-eq-true-iff}
-use mathlib.Core.List.{List, [], _∷_}
+use mathlib.Core.List.{List, _∷_}
 use mathlib.Core.Logic.{_≢_}
 use native.Mathlib.Nat.{add-zero}
 use native.Mathlib.Omega.{arith}
@@ -11,7 +11,9 @@ use lib.Seq.{getD-set-other}
 use lib.Dec.{eqb, leb, ltb}
 use borrow.Author.Tests.{leb-true, leb-false}
 use Rattle.sheet.specs.declared.Instr.{Instr}
-use Rattle.sheet.specs.declared.Instr.the-variants.{Computes, Moves, Multiplies, Interrupts, Blocks, Ports, Controls}
+use Rattle.sheet.specs.declared.Instr.the-variants.{Computes, Moves, Multiplies, Interrupts, Blocks, Ports, Controls, Modes, Cards}
+use Rattle.sheet.specs.declared.cards.Card.{Card}
+use Rattle.sheet.specs.declared.cards.Card.the-variants as cards
 use Rattle.sheet.specs.declared.Primitive.{Primitive}
 use Rattle.sheet.specs.declared.Primitive.the-variants.{Movbk, Cmpbk, Cmpm, Ldm, Stm, Inm, Outm}
 use Rattle.sheet.specs.declared.Repeat.{Repeat}
@@ -32,21 +34,18 @@ use Rattle.sheet.specs.Block.{sourceElement, primitive, element, repeated, bloc
 use Rattle.sheet.specs.Ports.{portNumber, ports}
 use Rattle.sheet.specs.Reading.{known}
 use Rattle.sheet.specs.Traps.{untrapped}
-use Rattle.sheet.specs.Execute.{operation, execute}
-use Rattle.sheet.specs.Step.{fits, placesGood, sound, starting, stepping, step}
-use Rattle.sheet.proofs.StepLaws.{Stepped, begins}
-use Rattle.log_record.specs.Whole.{Row, Sound}
-use Rattle.log_record.proofs.Growth.{access-sound}
-use Rattle.log_record.proofs.Picked.{picked}
+use Rattle.sheet.specs.Execute.{carding, operation, execute}
+use Rattle.sheet.specs.Step.{fits, pswGood, placesGood, sound, starting, stepping}
+use Rattle.sheet.proofs.StepLaws.{Stepped}
 use Rattle.theorems.specs.Repeat.{reg, repeats}
-use Rattle.sheet.specs.Lendable.{lendable}
 use Rattle.theorems.specs.Rows.{Use, none, access, rowsOfUse, rowsOf}
-use Rattle.theorems.specs.Access.{takenBy, ofIo, ofPrimitive, accessOf, tapeNeed, logNeed}
+use Rattle.theorems.specs.Access.{takenBy, ofIo, ofPrimitive, ofCard, accessOf, tapeNeed, logNeed}
 use Rattle.theorems.specs.Outcomes.{Passes}
 use Rattle.theorems.proofs.Quiet.{Quiet, q-pure, quiet-seq, Silent, silent, quiet-silent}
-use Rattle.theorems.proofs.Widths.{Holds, holds-lent, topOf, file-words, register-top, memory-top, taped-top}
+use Rattle.theorems.proofs.Widths.{Holds}
 use Rattle.theorems.proofs.BoundsOperands.{of-setReg}
 use Rattle.theorems.proofs.BoundsFlow.{of-stepIndex, of-setTarget, of-primitive, of-afterElement}
+use Rattle.theorems.proofs.BoundsCards.{of-carding}
 use Rattle.theorems.proofs.BoundsReading.{Fine, ScannedTo, read}
 use Rattle.theorems.proofs.BoundsStep.{of-operation, of-singleStep, reads-fine}
 
@@ -98,6 +97,17 @@ leads-repeated k b seg q start w = l-get (go (eqb (reg w CW) 0))
     go true = l-quiet q-pure
     go false = leads-then (leads-primitive k b seg w) λ _. of-afterElement k q start .quiet refl
 
+leads-card : (i : Card) (w : World) → Leads (carding i) w (ofCard w i)
+unfolding carding
+leads-card (cards.Transfers i) w = l-quiet (of-carding (cards.Transfers i) .quiet refl)
+leads-card (cards.Ports i) w = leads-ports i w
+leads-card (cards.Controls i) w = l-quiet (of-carding (cards.Controls i) .quiet refl)
+leads-card (cards.Points i) w = l-quiet (of-carding (cards.Points i) .quiet refl)
+leads-card (cards.Calculates i) w = l-quiet (of-carding (cards.Calculates i) .quiet refl)
+leads-card (cards.Branches i) w = l-quiet (of-carding (cards.Branches i) .quiet refl)
+leads-card (cards.Stacks i) w = l-quiet (of-carding (cards.Stacks i) .quiet refl)
+leads-card (cards.Modes i) w = l-quiet (of-carding (cards.Modes i) .quiet refl)
+
 leads-operation : (i : Instr) → Fine i → (start : ℕ) (w : World) → Leads (operation i start) w (accessOf w i)
 unfolding operation untrapped block
 leads-operation (Computes i) h start w = l-quiet (of-operation (Computes i) h start .quiet refl)
@@ -111,6 +121,8 @@ leads-operation (Blocks k b seg WhileCy) h start w = leads-then (leads-repeated 
 leads-operation (Blocks k b seg WhileNotCy) h start w = leads-then (leads-repeated k b seg WhileNotCy start w) λ _. q-pure
 leads-operation (Ports i) h start w = leads-then (leads-ports i w) λ _. q-pure
 leads-operation (Controls i) h start w = l-quiet (of-operation (Controls i) h start .quiet refl)
+leads-operation (Modes i) h start w = l-quiet (of-operation (Modes i) h start .quiet refl)
+leads-operation (Cards i) h start w = leads-then (leads-card i w) λ _. q-pure
 
 -- PC is no part of an access
 pub other-register : (f : List ℕ) (x n : ℕ) → n ≢ PC → fileOf (written f PC x) n ≡ fileOf f n
@@ -151,6 +163,16 @@ module _ (w : World) (x : ℕ) where
   same-primitive Inm b seg = ap (takenBy w b) same-dw
   same-primitive Outm b seg = rw (same-dw, same-segment seg, other-register (w .state .file) x IX (λ e. omega arith))
 
+  same-card : (i : Card) → ofCard begun i ≡ ofCard w i
+  same-card (cards.Transfers i) = refl
+  same-card (cards.Ports i) = same-io i
+  same-card (cards.Controls i) = refl
+  same-card (cards.Points i) = refl
+  same-card (cards.Calculates i) = refl
+  same-card (cards.Branches i) = refl
+  same-card (cards.Stacks i) = refl
+  same-card (cards.Modes i) = refl
+
   same-access : (i : Instr) → accessOf begun i ≡ accessOf w i
   same-access (Computes i) = refl
   same-access (Moves i) = refl
@@ -159,6 +181,8 @@ module _ (w : World) (x : ℕ) where
   same-access (Blocks k b seg q) = rw (other-register (w .state .file) x CW (λ e. omega arith), same-primitive k b seg)
   same-access (Ports i) = same-io i
   same-access (Controls i) = refl
+  same-access (Modes i) = refl
+  same-access (Cards i) = same-card i
 
 -- nor is the count
 io-starting : (j : Instr) (w : World) (i : Io) → ofIo (starting j w) i ≡ ofIo w i
@@ -178,6 +202,17 @@ primitive-starting j w Stm b seg = refl
 primitive-starting j w Inm b seg = refl
 primitive-starting j w Outm b seg = refl
 
+card-starting : (j : Instr) (w : World) (i : Card) → ofCard (starting j w) i ≡ ofCard w i
+unfolding starting
+card-starting j w (cards.Transfers i) = refl
+card-starting j w (cards.Ports i) = io-starting j w i
+card-starting j w (cards.Controls i) = refl
+card-starting j w (cards.Points i) = refl
+card-starting j w (cards.Calculates i) = refl
+card-starting j w (cards.Branches i) = refl
+card-starting j w (cards.Stacks i) = refl
+card-starting j w (cards.Modes i) = refl
+
 access-starting : (w : World) (i : Instr) → accessOf (starting i w) i ≡ accessOf w i
 unfolding starting
 access-starting w (Computes i) = refl
@@ -187,6 +222,8 @@ access-starting w (Interrupts i) = refl
 access-starting w (Blocks k b seg q) = ap (pick (repeats q && eqb (reg w CW) 0) none) (primitive-starting (Blocks k b seg q) w k b seg)
 access-starting w (Ports i) = io-starting (Ports i) w i
 access-starting w (Controls i) = refl
+access-starting w (Modes i) = refl
+access-starting w (Cards i) = card-starting (Cards i) w i
 
 leads-stepping : (i : Instr) → Fine i → (n : ℕ) (w : World) → Leads (stepping i n) w (accessOf w i)
 unfolding stepping execute _>>=_
@@ -204,11 +241,12 @@ not-so false e = refl
 pub passes : (w : World) → fits w ≡ true → sound w ≡ true → Passes w
 unfolding fits sound
 passes w f e =
-    let (a, e₁) = and-eq-true-iff (fixedOf (pswOf (w .state))) _ .0 e in
+    let (psw, e₁) = and-eq-true-iff (pswGood (w .state)) _ .0 e in
+    let (a, md) = and-eq-true-iff (fixedOf (pswOf (w .state))) _ .0 psw in
     let (g, m) = and-eq-true-iff (placesGood (w .state) (w .tape) (w .log)) _ .0 e₁ in
     let (b, e₂) = and-eq-true-iff (leb (w .state .progress .tape) (length (w .tape))) _ .0 g in
     let (c, d) = and-eq-true-iff (leb (w .state .progress .log) (length (w .log))) _ .0 e₂ in
-    record { fit = leb-true _ _ f; fixed = a; tape-in = leb-true _ _ b; log-in = leb-true _ _ c; count-in = leb-true _ _ d; marks-in = not-so _ m }
+    record { fit = leb-true _ _ f; fixed = a; mode-in = md; tape-in = leb-true _ _ b; log-in = leb-true _ _ c; count-in = leb-true _ _ d; marks-in = not-so _ m }
 
 -- records of an access, from places and lengths of tape and log, and the gap that is due
 pub data Comes (due : Use) (tape tapes log logs gap : ℕ) {A : Type 0} : Outcome A → Type 0 where
@@ -310,60 +348,3 @@ pub step-rows : (w v : World) (t : List Event) → Holds w → (a : Stepped kept
 step-rows w v t b a =
     let f = fine-read (rw (a .read) at (reads-fine w (b .ram) (b .rom))) in
     rows-come (rw (a .ran) at (stepping-comes w (passes w (a .fit) (a .good)) (a .instr) f (a .size)))
-
--- ---- its numbers
-
-pub data AtMostOne : List Row → Type 0 where
-  no-row : AtMostOne []
-  one-row : {r : Row} → Sound rule r → AtMostOne (r ∷ [])
-
-data InWidth : Use → Type 0 where
-  no-access : InWidth none
-  in-width : {out b : Bool} {port v : ℕ} → port ≤ 65535 → v ≤ topOf b → InWidth (access out b port v)
-
-byte-word : (n : ℕ) → n ≤ 255 → n ≤ 65535
-byte-word n h = omega arith
-
-module _ (w : World) (h : Holds w) where
-  register-word : (n : ℕ) → reg w n ≤ 65535
-  register-word = file-words (w .state .file) (h .words)
-
-  tape-width : (b : Bool) (port : ℕ) → port ≤ 65535 → InWidth (takenBy w b port)
-  tape-width b port l = in-width l (taped-top b (w .tape) (w .state .progress .tape) (h .tape))
-
-  io-width : (i : Io) → Fine (Ports i) → InWidth (ofIo w i)
-  io-width (In b InDw) f = tape-width b (reg w DW) (register-word DW)
-  io-width (In b (Numbered n)) f = tape-width b n (byte-word n f)
-  io-width (Out b InDw) f = in-width (register-word DW) (register-top b (reg w) AW register-word)
-  io-width (Out b (Numbered n)) f = in-width (byte-word n f) (register-top b (reg w) AW register-word)
-
-  primitive-width : (k : Primitive) (b : Bool) (seg : ℕ) → InWidth (ofPrimitive w k b seg)
-  primitive-width Movbk b seg = no-access
-  primitive-width Cmpbk b seg = no-access
-  primitive-width Cmpm b seg = no-access
-  primitive-width Ldm b seg = no-access
-  primitive-width Stm b seg = no-access
-  primitive-width Inm b seg = tape-width b (reg w DW) (register-word DW)
-  primitive-width Outm b seg = in-width (register-word DW) (memory-top b (w .ram) (w .rom) _ _ (h .ram) (h .rom))
-
-  access-width : (i : Instr) → Fine i → InWidth (accessOf w i)
-  access-width (Computes i) f = no-access
-  access-width (Moves i) f = no-access
-  access-width (Multiplies i) f = no-access
-  access-width (Interrupts i) f = no-access
-  access-width (Blocks k b seg q) f = picked InWidth (repeats q && eqb (reg w CW) 0) no-access (primitive-width k b seg)
-  access-width (Ports i) f = io-width i f
-  access-width (Controls i) f = no-access
-
-one-sound : (n : ℕ) (due : Use) → InWidth due → AtMostOne (rowsOfUse (n + 1) due)
-one-sound n none no-access = no-row
-one-sound n (access out b port v) (in-width h g) = one-row (access-sound rule n port v out b h g)
-
--- AT MOST ONE RECORD A STEP, of a gap from 1 up to the ceiling, and a key and a value in their widths
-pub step-row : (w v : World) (t : List Event) → lendable w ≡ true → step w ≡ done tt v t → (n : ℕ) → AtMostOne (rowsOf (n + 1) t)
-unfolding step
-step-row w v t l e n =
-    let a = begins kept w v t e in
-    let b = holds-lent w l in
-    let f = fine-read (rw (a .read) at (reads-fine w (b .ram) (b .rom))) in
-    rw (step-rows w v t b a (n + 1)) (one-sound n (accessOf w (a .instr)) (access-width w b (a .instr) f))

@@ -7,12 +7,12 @@ use native.Mathlib.Omega.{arith}
 use lib.ListN.{length, getD}
 use lib.Dec.{leb, lit≤}
 use Rattle.sheet.specs.Width.{pick, bytesOf, wrapOf}
-use Rattle.sheet.specs.Psw.{Flag, Effect, Choice, flagOf, settled}
+use Rattle.sheet.specs.Psw.{Flag, Effect, Choice, flagOf, settled, Crossing}
 use Rattle.sheet.specs.Registers.{PSW, File, fileOf, written}
 use Rattle.sheet.specs.Memory.{readMem, writeMem, lostBytes}
 use Rattle.sheet.specs.Log.{rule, keyOf, recordBytes}
-use Rattle.sheet.specs.World.{World, withState, withRam, pswOf, withFile, withPsw, withHalted}
-use Rattle.sheet.specs.Act.{Act, pure, get, put, ask, copy, flags, load, store, input, output, halt, _>>=_}
+use Rattle.sheet.specs.World.{World, withState, withRam, pswOf, withFile, withPsw, withHalted, crossed}
+use Rattle.sheet.specs.Act.{Act, pure, get, put, ask, copy, flags, load, store, input, output, halt, cross, _>>=_}
 use Rattle.sheet.specs.Handler.{Event, reads, writes, takes, gives, asks, copies, changes, Outcome, refused, done, then, Access, short, through, taped, recording, inputs, outputs, ported, runBy}
 use Rattle.theorems.specs.Rows.{rowsOf}
 
@@ -28,6 +28,7 @@ pub data Quiet {A : Type 0} : Act A → Type 0 where
   q-load : {b : Bool} {g o : ℕ} {k : ℕ → Act A} → ((v : ℕ) → Quiet (k v)) → Quiet (load b g o k)
   q-store : {b : Bool} {g o v : ℕ} {p : Act A} → Quiet p → Quiet (store b g o v p)
   q-halt : {b : Bool} {p : Act A} → Quiet p → Quiet (halt b p)
+  q-cross : {c : Crossing} {p : Act A} → Quiet p → Quiet (cross c p)
 
 pub quiet-seq : {A B : Type 0} {p : Act A} {f : A → Act B} → Quiet p → ((a : A) → Quiet (f a)) → Quiet (p >>= f)
 unfolding _>>=_
@@ -40,6 +41,7 @@ quiet-seq {p = flags c p} (q-flags h) g = q-flags (quiet-seq h g)
 quiet-seq {p = load b s o k} (q-load h) g = q-load λ v. quiet-seq (h v) g
 quiet-seq {p = store b s o v p} (q-store h) g = q-store (quiet-seq h g)
 quiet-seq {p = halt b p} (q-halt h) g = q-halt (quiet-seq h g)
+quiet-seq {p = cross c p} (q-cross h) g = q-cross (quiet-seq h g)
 
 -- its events make no record
 pub data Silent {A : Type 0} : Outcome A → Type 0 where
@@ -61,3 +63,4 @@ quiet-silent (flags c p) (q-flags h) u w =
 quiet-silent (load b g o k) (q-load h) u w = silent-then (reads b g o) (λ n t. refl) (quiet-silent (k (readMem b (w .ram) (w .rom) g o)) (h _) u w)
 quiet-silent (store b g o v p) (q-store h) u w = silent-then (writes b g o v (lostBytes b (w .ram) g o)) (λ n t. refl) (quiet-silent p h u (withRam w (writeMem b (w .ram) g o v)))
 quiet-silent (halt b p) (q-halt h) u w = quiet-silent p h u (withState w (withHalted (w .state) b))
+quiet-silent (cross c p) (q-cross h) u w = quiet-silent p h u (withState w (crossed c (w .state)))

@@ -10,12 +10,14 @@ use borrow.Author.Tests.{ne-eqb}
 use lib.ListN.{getD, set}
 use Rattle.sheet.specs.declared.Instr.the-variants.{Blocks}
 use Rattle.sheet.specs.Width.{pick, sub16}
-use Rattle.sheet.specs.Registers.{CW, IX, IY, DS1, PS, PC, fileOf, segment}
+use Rattle.sheet.specs.Psw.{nativeOf}
+use Rattle.sheet.specs.Registers.{CW, IX, IY, DS1, PS, PC, PSW, fileOf, segment}
 use Rattle.sheet.specs.Memory.{byteAt}
 use Rattle.sheet.specs.World.{World, pswOf}
 use Rattle.sheet.specs.Handler.{Event, Outcome, refused, done, kept, happened}
-use Rattle.sheet.specs.Reading.{known}
+use Rattle.sheet.specs.Reading.{known, scan}
 use Rattle.sheet.specs.FirstByte.{instruction}
+use Rattle.sheet.specs.CardCodes.{cardInstruction}
 use Rattle.sheet.specs.Step as sheet
 use Rattle.sheet.specs.Step.{fits, sound, refusal, codeAt, source, awake, stepBy, step, interrupt, instructionIn}
 use Rattle.sheet.proofs.ReadingLaws.{scan-rests}
@@ -212,8 +214,10 @@ module _ (E : Engine) (F : Faithful E) (i : Block) (w : World) (t : Taken E i w)
       let r = placed-reads (reg w CW - j) (reg w PC) f (keep j .long) in
       let ps : getD (v .state .file) PS 0 ≡ reg w PS = ap (λ g. getD g PS 0) (x .registers) ∙ r .ps ∙ keep j .ps in
       let pc : getD (v .state .file) PC 0 ≡ reg w PC = ap (λ g. getD g PC 0) (x .registers) ∙ r .pc in
-      sym
-      (scan-rests instruction (source w) (source v) 0
+      let md : nativeOf (pswOf (v .state)) ≡ nativeOf (pswOf (w .state)) = ap (λ g. nativeOf (getD g PSW 0)) (x .registers) ∙ ap (λ n. nativeOf n) (r .psw) ∙ keep j .mode in
+      ap (λ (b : Bool). scan (pick b instruction cardInstruction) (source v) 0) md
+      ∙ sym
+      (scan-rests (pick (nativeOf (pswOf (w .state))) instruction cardInstruction) (source w) (source v) 0
       (λ c low high.
       let in-size : c < i .size = rw (t .read) at high in
       rw (ps, pc)

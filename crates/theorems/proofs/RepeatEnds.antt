@@ -44,6 +44,7 @@ bytes-kept w =
       at-store = λ v b g o x q. record { good = k .at-store v b g o x (q .good); bytes = write-bytes b (v .ram) g o x (q .bytes) };
       at-record = λ v m b h r q. record { good = k .at-record v m b h r (q .good); bytes = q .bytes };
       at-halt = λ v b q. record { good = k .at-halt v b (q .good); bytes = q .bytes };
+      at-crossing = λ v c q. record { good = k .at-crossing v c (q .good); bytes = q .bytes };
     }
 
 tree-bytes : (p : Act Unit) (w v : World) (t : List Event) → Sound w → Bytes (w .ram) → runBy kept p w ≡ done tt v t → Bytes (v .ram)

@@ -11,14 +11,14 @@ use Rattle.sheet.specs.declared.Primitive.the-variants.{Movbk}
 use Rattle.sheet.specs.declared.Repeat.the-variants.{WhileZ}
 use Rattle.sheet.specs.declared.Instr.the-variants.{Blocks}
 use Rattle.sheet.specs.Width.{wrapOf}
-use Rattle.sheet.specs.Psw.{settled}
+use Rattle.sheet.specs.Psw.{settled, inMode}
 use Rattle.sheet.specs.Registers.{CW, PC, inPs}
 use Rattle.sheet.specs.Memory.{byteAt, readMem, writeMem, busCycles, lost, lostBytes}
 use Rattle.sheet.specs.Act as act
-use Rattle.sheet.specs.World.{World}
+use Rattle.sheet.specs.World.{World, crossed}
 use Rattle.sheet.specs.Handler.{Event, Outcome, done, runBy, run, happened, tally}
-use Rattle.sheet.specs.Traps.{push, pop, pushPsw, pushPsPc, jumpFar, save, trap, untrapped}
-use Rattle.sheet.specs.Interrupts.{reti, interrupts}
+use Rattle.sheet.specs.Traps.{push, pop, pushPsw, pushPsPc, jumpFar, save, vectored, entered, trap, untrapped}
+use Rattle.sheet.specs.Mode.{takeBack, popReturn, reti, modes}
 use Rattle.sheet.specs.Control.{control}
 use Rattle.sheet.specs.Branch.{countDown}
 use Rattle.sheet.specs.Block.{steppedOf, stepIndex, sourceElement, targetElement, setTarget, primitive, goesOnAfter, afterElement, element, repeated, block}
@@ -75,7 +75,7 @@ back = machine (words 2 64 81 85 64 0xf202) false 3 (memory pushed (1 ∷ 0 ∷ 
 
 -- whoever unfolds this unfolds what these steps need of the definition
 unfoldable pub opened : ℕ
-unfolding wrapOf settled byteAt readMem writeMem act._>>=_ runBy run push pop pushPsw pushPsPc jumpFar save trap reti interrupts control countDown steppedOf stepIndex sourceElement targetElement setTarget primitive goesOnAfter afterElement element repeated block untrapped operation execute reading._>>=_ scan prefixOf lookUp afterPrefix prefixed instruction instructionIn fits sound interrupting singleStep loadsSegment starting stepping decoded awake stepBy step interruptBy interrupt
+unfolding wrapOf settled byteAt readMem writeMem act._>>=_ runBy run push pop pushPsw pushPsPc jumpFar save vectored entered trap crossed inMode takeBack popReturn reti modes control countDown steppedOf stepIndex sourceElement targetElement setTarget primitive goesOnAfter afterElement element repeated block untrapped operation execute reading._>>=_ scan prefixOf lookUp afterPrefix prefixed instruction instructionIn fits sound interrupting singleStep loadsSegment starting stepping decoded awake stepBy step interruptBy interrupt
 opened = 0
 
 pub first : step start ≡ done tt after-one (happened (step start))
@@ -124,7 +124,7 @@ pub restores : Restores Mine after-one back
 restores = record { registers = refl; kept = same-bytes }
 
 -- the targets, 84 to 86, are none of the instruction's bytes, 64 to 66
-own-low : (a c : ℕ) → c < 3 → a ≡ codeAt 0 64 c → a < 67
+pub own-low : (a c : ℕ) → c < 3 → a ≡ codeAt 0 64 c → a < 67
 own-low a c h e = omega arith
 
 pub apart : NeverOnItself move3 start

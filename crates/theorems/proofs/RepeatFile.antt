@@ -10,11 +10,11 @@ use lib.ListN.{length, getD, set, length-set}
 use lib.Seq.{getD-set-other}
 use Rattle.sheet.specs.declared.Primitive.{Primitive}
 use Rattle.sheet.specs.declared.Primitive.the-variants.{Movbk, Cmpbk, Cmpm, Ldm, Stm, Inm, Outm}
-use Rattle.sheet.specs.Psw.{BRK, DIR, keeps, flagOf, column, settled}
+use Rattle.sheet.specs.Psw.{BRK, DIR, keeps, flagOf, nativeOf, column, settled}
 use Rattle.sheet.specs.Registers.{AW, CW, IX, IY, DS1, PS, SS, DS0, PC, PSW, fileOf, segment, readReg, regWord}
 use Rattle.sheet.specs.Arithmetic.{difference}
 use Rattle.sheet.specs.Block.{steppedOf}
-use Rattle.sheet.proofs.PswLaws.{flag-settled}
+use Rattle.sheet.proofs.PswLaws.{flag-settled, native-settled}
 use Rattle.theorems.specs.Repeat.{ofMemory, hasSource, hasTarget, placed}
 
 -- what holds of any fourteen words holds of a list of that length
@@ -69,9 +69,10 @@ pub record Keeps (f g : List ℕ) : Type 0 where
   pub pc : getD g PC 0 ≡ getD f PC 0
   pub brk : flagOf (getD g PSW 0) BRK ≡ flagOf (getD f PSW 0) BRK
   pub dir : flagOf (getD g PSW 0) DIR ≡ flagOf (getD f PSW 0) DIR
+  pub mode : nativeOf (getD g PSW 0) ≡ nativeOf (getD f PSW 0)
 
 pub keeps-all : {f : List ℕ} → length f ≡ 14 → Keeps f f
-keeps-all e = record { long = e; cw = refl; ds1 = refl; ps = refl; ss = refl; ds0 = refl; pc = refl; brk = refl; dir = refl }
+keeps-all e = record { long = e; cw = refl; ds1 = refl; ps = refl; ss = refl; ds0 = refl; pc = refl; brk = refl; dir = refl; mode = refl }
 
 pub keeps-then : {f g h : List ℕ} → Keeps f g → Keeps g h → Keeps f h
 keeps-then x y = record {
@@ -84,6 +85,7 @@ keeps-then x y = record {
   pc = y .pc ∙ x .pc;
   brk = y .brk ∙ x .brk;
   dir = y .dir ∙ x .dir;
+  mode = y .mode ∙ x .mode;
 }
 
 -- the segment register that a number names
@@ -161,6 +163,7 @@ set-keeps n x low other f e =
       pc = same PC (omega arith);
       brk = ap (λ v. flagOf v BRK) psw;
       dir = ap (λ v. flagOf v DIR) psw;
+      mode = ap (λ v. nativeOf v) psw;
     }
 
 stepped-ix : (w : Bool) (f : List ℕ) → length f ≡ 14 → Keeps f (stepped w IX f)
@@ -173,7 +176,7 @@ stepped-iy w f = set-keeps IY _ (lit< tt) (omega arith) f
 
 compared-keeps : (w : Bool) (x y : ℕ) (f : List ℕ) → length f ≡ 14 → Keeps f (compared w x y f)
 unfolding compared
-compared-keeps w x y = fourteen (λ f. Keeps f (compared w x y f)) (λ a b c d e f g h i j k l m n. record { long = refl; cw = refl; ds1 = refl; ps = refl; ss = refl; ds0 = refl; pc = refl; brk = flag-settled keeps (column (difference w x y false .column)) n BRK; dir = flag-settled keeps (column (difference w x y false .column)) n DIR })
+compared-keeps w x y = fourteen (λ f. Keeps f (compared w x y f)) (λ a b c d e f g h i j k l m n. record { long = refl; cw = refl; ds1 = refl; ps = refl; ss = refl; ds0 = refl; pc = refl; brk = flag-settled keeps (column (difference w x y false .column)) n BRK; dir = flag-settled keeps (column (difference w x y false .column)) n DIR; mode = native-settled keeps (column (difference w x y false .column)) n })
 
 loaded-keeps : (w : Bool) (x : ℕ) (f : List ℕ) → length f ≡ 14 → Keeps f (loaded w x f)
 unfolding loaded

@@ -155,7 +155,7 @@ pub record Alike (K : ℕ → Type 0) (k : Primitive) (b : Bool) (seg : ℕ) (f 
 pub primitive-local : (K : ℕ → Type 0) (k : Primitive) (b : Bool) (seg : ℕ) (f ram rom ram′ rom′ : List ℕ) → ofMemory k ≡ true
     → CoversDue K k b seg f → Agree K ram rom ram′ rom′ → Alike K k b seg f ram rom ram′ rom′
 primitive-local K k b seg f ram rom ram′ rom′ m h g =
-    let s : State = record { file = f; marks = marksOf false false; progress = record { tape = 0; log = 0; count = 0 } } in
+    let s : State = record { file = f; marks = marksOf false false false; progress = record { tape = 0; log = 0; count = 0 } } in
     let one = primitive-is k b seg (world s ram rom [] []) m in
     let two = primitive-is k b seg (world s ram′ rom′ [] []) m in
     let within : Within K (happened (run (primitive k b seg) (world s ram rom [] []))) = rw one (within-due K k b seg f ram rom h) in
@@ -197,7 +197,7 @@ left-of (leaves q) = q
 ram-spared : (k : Primitive) (b : Bool) (seg : ℕ) (f ram rom : List ℕ) (a : ℕ) → ofMemory k ≡ true
     → (T (writesTarget k) → Covers (λ x. a ≢ x) b (getD f DS1 0) (getD f IY 0)) → getD (ramAfter k b seg f ram rom) a 0 ≡ getD ram a 0
 ram-spared k b seg f ram rom a m h =
-    let s : State = record { file = f; marks = marksOf false false; progress = record { tape = 0; log = 0; count = 0 } } in
+    let s : State = record { file = f; marks = marksOf false false false; progress = record { tape = 0; log = 0; count = 0 } } in
     let one = primitive-is k b seg (world s ram rom [] []) m in
     let spares : Spares a (happened (run (primitive k b seg) (world s ram rom [] []))) = rw one (writes-target k b seg f ram rom a h) in
     let l : Leaves (HoldsAt a (getD ram a 0)) (run (primitive k b seg) (world s ram rom [] [])) =

@@ -7,8 +7,8 @@ use Rattle.sheet.specs.Width.{wrapOf}
 use Rattle.sheet.specs.Psw.{keeps, flagOf, settled}
 use Rattle.sheet.specs.Registers.{fileOf, written}
 use Rattle.sheet.specs.Memory.{readMem, writeMem, lostBytes}
-use Rattle.sheet.specs.World.{World, withState, withRam, pswOf, withFile, withPsw, withHalted}
-use Rattle.sheet.specs.Act.{Act, pure, refuse, get, put, ask, copy, flags, load, store, input, output, halt, _>>=_}
+use Rattle.sheet.specs.World.{World, withState, withRam, pswOf, withFile, withPsw, withHalted, crossed}
+use Rattle.sheet.specs.Act.{Act, pure, refuse, get, put, ask, copy, flags, load, store, input, output, halt, cross, _>>=_}
 use Rattle.sheet.specs.Handler.{Access, short, through, inputs, outputs, Event, reads, writes, takes, gives, asks, copies, changes, Outcome, refused, done, then, ported, runBy, run}
 
 -- events in front of an outcome
@@ -59,6 +59,7 @@ run-bind (input b n k) f w =
 run-bind (output b n v p) f w =
     after-port (outputs b n v w) (λ x. gives b n v) (λ x u. run p u) (λ x u. run (p >>= f) u) (λ a x. run (f a) x) (λ x u. run-bind p f u)
 run-bind (halt b p) f w = run-bind p f (withState w (withHalted (w .state) b))
+run-bind (cross c p) f w = run-bind p f (withState w (crossed c (w .state)))
 
 prepend-done : {A : Type 0} (t t′ : List Event) (a : A) (w : World) → prepend t (done a w t′) ≡ done a w (t ++ t′)
 unfolding prepend

@@ -20,6 +20,7 @@ use Rattle.sheet.specs.Operand.{regValue}
 use Rattle.sheet.specs.Arithmetic.{resulting, difference}
 use Rattle.sheet.specs.Block.{steppedOf, stepIndex, sourceElement, targetElement, setTarget, primitive}
 use Rattle.sheet.specs.Step.{codeAt}
+use Rattle.mach_tally.specs.Sums.{cyclesOnly}
 use Rattle.theorems.specs.StandIns.{machine}
 use Rattle.theorems.specs.Repeat.{Block, single, singles, firstOr, elements, walk, InElement, low, high, shown}
 use Rattle.theorems.specs.RepeatCode.{code}
@@ -42,7 +43,7 @@ unfolding singles single run runBy act._>>=_ primitive steppedOf stepIndex sourc
 overlap-down = refl
 
 -- two words moved from an odd address to an even one: 3 cycles each
-odd-words : shown code (repeating Movbk true) (machine (words 0 2 1 6 0xf002) false 0 (replicate 12 5)) 2 ≡ record { cycles = 3; dropped = 0 } ∷ record { cycles = 3; dropped = 0 } ∷ []
+odd-words : shown code (repeating Movbk true) (machine (words 0 2 1 6 0xf002) false 0 (replicate 12 5)) 2 ≡ cyclesOnly 3 ∷ cyclesOnly 3 ∷ []
 unfolding shown singles single run runBy act._>>=_ primitive steppedOf stepIndex sourceElement setTarget readMem writeMem byteAt tally busCycles lost lostBytes
 odd-words = refl
 

@@ -24,7 +24,7 @@ refused-first : (budget : ℕ) (w : World) (n : ℕ) (s : Seen Unit) → s ≡ s
 refused-first budget w n s e l (too-large h) = let z : n ≡ 1 = cc in rw z (run-only budget w (ran 1 w [] []) (outcome.unfit (fits-not w h)))
 refused-first budget w n s e l (unsound h u) = let z : n ≡ 2 = cc in rw z (run-only budget w (ran 2 w [] []) (outcome.unsound (fits-so w h) (sound-not w u)))
 refused-first budget w n s e l (asleep p h) = let z : n ≡ 8 = cc in absurd (omega arith)
-refused-first budget w n s e l (fourth-prefix p h q) = let z : n ≡ 4 = cc in absurd (omega arith)
+refused-first budget w n s e l (fourth-prefix p h m q) = let z : n ≡ 4 = cc in absurd (omega arith)
 refused-first budget w n s e l (no-instruction p h q) = let z : n ≡ 3 = cc in absurd (omega arith)
 refused-first budget w n s e l (short-tape p h q k) = let z : n ≡ 5 = cc in absurd (omega arith)
 refused-first budget w n s e l (full-log p h q k m) = let z : n ≡ 6 = cc in absurd (omega arith)

@@ -15,6 +15,7 @@ use Rattle.sheet.proofs.SmallTable.{small-table}
 use Rattle.engine.proofs.RunLaws.{Done}
 use Rattle.theorems.specs.Runs.{none, step-then, spent, stopped}
 use Rattle.sheet.specs.Lendable.{lendable}
+use Rattle.mach_tally.specs.Sums.{cyclesOnly}
 use Rattle.theorems.specs.StandIns.{MeetsRun, answerOf, leftBy, stepsOf, cyclesOf, subtracting, subtracted, asleep}
 use Rattle.theorems.proofs.Calls.{step-done}
 use Rattle.theorems.proofs.CallsStandIns.{bytes-of, shared}
@@ -22,10 +23,10 @@ use Rattle.theorems.proofs.Runs.{run-only}
 
 -- ---- two runs: one step of SUB4S, and five of a halted machine
 
-one-step : Done (step subtracting) subtracted (record { cycles = 3; dropped = 0 })
-one-step = step-done subtracting subtracted (record { cycles = 3; dropped = 0 }) (bytes-of (subtracting .ram) refl) (bytes-of (subtracting .rom) refl) (small-table .sub4s)
+one-step : Done (step subtracting) subtracted (cyclesOnly 3)
+one-step = step-done subtracting subtracted (cyclesOnly 3) (bytes-of (subtracting .ram) refl) (bytes-of (subtracting .rom) refl) (small-table .sub4s)
 
-run-one : ranReport (runs 1 subtracting) ≡ runReported 0 subtracted 1 (record { cycles = 3; dropped = 0 })
+run-one : ranReport (runs 1 subtracting) ≡ runReported 0 subtracted 1 (cyclesOnly 3)
 unfolding fits sound tallyAll
 run-one =
     let r = run-only 1 subtracting _ (spent refl refl (step-then (one-step .is) none)) in
@@ -42,7 +43,7 @@ run-asleep = rw (run-only 5 asleep _ (stopped refl refl (lit< tt) none asleep-re
 -- ---- engines
 
 module _ (engine : ℕ → World → RunReport) (meets : MeetsRun engine) where
-  at-one : engine 1 subtracting ≡ runReported 0 subtracted 1 (record { cycles = 3; dropped = 0 })
+  at-one : engine 1 subtracting ≡ runReported 0 subtracted 1 (cyclesOnly 3)
   at-one = sym (meets 1 subtracting (lit≤ tt) refl) ∙ run-one
 
   at-asleep : engine 5 asleep ≡ runReported 8 asleep 0 nothing

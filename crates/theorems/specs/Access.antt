@@ -4,7 +4,9 @@ use mathlib.Core.Bool.{Bool, true, false, _&&_}
 use lib.ListN.{length}
 use lib.Dec.{eqb}
 use Rattle.sheet.specs.declared.Instr.{Instr}
-use Rattle.sheet.specs.declared.Instr.the-variants.{Computes, Moves, Multiplies, Interrupts, Blocks, Ports, Controls}
+use Rattle.sheet.specs.declared.Instr.the-variants.{Computes, Moves, Multiplies, Interrupts, Blocks, Ports, Controls, Modes, Cards}
+use Rattle.sheet.specs.declared.cards.Card.{Card}
+use Rattle.sheet.specs.declared.cards.Card.the-variants as cards
 use Rattle.sheet.specs.declared.Primitive.{Primitive}
 use Rattle.sheet.specs.declared.Primitive.the-variants.{Movbk, Cmpbk, Cmpm, Ldm, Stm, Inm, Outm}
 use Rattle.sheet.specs.declared.Port.{Port}
@@ -40,6 +42,16 @@ ofPrimitive w Stm b seg = none
 ofPrimitive w Inm b seg = takenBy w b (reg w DW)
 ofPrimitive w Outm b seg = access true b (reg w DW) (readMem b (w .ram) (w .rom) (reg w (segment seg)) (reg w IX))
 
+abbrev pub ofCard : World → Card → Use
+ofCard w (cards.Transfers i) = none
+ofCard w (cards.Ports i) = ofIo w i
+ofCard w (cards.Controls i) = none
+ofCard w (cards.Points i) = none
+ofCard w (cards.Calculates i) = none
+ofCard w (cards.Branches i) = none
+ofCard w (cards.Stacks i) = none
+ofCard w (cards.Modes i) = none
+
 -- a repeated primitive with CW = 0 makes none
 abbrev pub accessOf : World → Instr → Use
 accessOf w (Computes i) = none
@@ -49,6 +61,8 @@ accessOf w (Interrupts i) = none
 accessOf w (Blocks k b seg q) = pick (repeats q && eqb (reg w CW) 0) none (ofPrimitive w k b seg)
 accessOf w (Ports i) = ofIo w i
 accessOf w (Controls i) = none
+accessOf w (Modes i) = none
+accessOf w (Cards i) = ofCard w i
 
 -- the tape bytes that an access needs, and the bytes of its record with a gap
 abbrev pub tapeNeed : Use → ℕ

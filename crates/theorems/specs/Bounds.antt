@@ -91,7 +91,7 @@ preparing psw = machine (0 ∷ 0 ∷ 0 ∷ 0 ∷ 1 ∷ 1 ∷ 0 ∷ 0 ∷ 0 ∷ 0
 -- the same in ROM, at FFFF:000C, without RAM and with BRK set
 abbrev pub preparingInRom : World
 preparingInRom =
-    world (record { file = 0 ∷ 0 ∷ 0 ∷ 0 ∷ 1 ∷ 1 ∷ 0 ∷ 0 ∷ 0 ∷ 0xffff ∷ 0 ∷ 0 ∷ 0xc ∷ 0xf102 ∷ []; marks = marksOf false false; progress = record { tape = 0; log = 0; count = 0 } })
+    world (record { file = 0 ∷ 0 ∷ 0 ∷ 0 ∷ 1 ∷ 1 ∷ 0 ∷ 0 ∷ 0 ∷ 0xffff ∷ 0 ∷ 0 ∷ 0xc ∷ 0xf102 ∷ []; marks = marksOf false false false; progress = record { tape = 0; log = 0; count = 0 } })
     [] (0xc8 ∷ 0x00 ∷ 0x00 ∷ 0xff ∷ []) [] []
 
 -- the step is accepted, and one of the numbers of its bus is exactly n

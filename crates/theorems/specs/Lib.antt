@@ -8,4 +8,6 @@ pub mod StandIns
 pub mod Rows
 pub mod Access
 pub mod Outcomes
+pub mod Modes
 pub mod LogCode
+pub mod Lent

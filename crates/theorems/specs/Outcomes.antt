@@ -1,7 +1,7 @@
--- Document 01's table of refusals, with 02 f's 13 and its case of 2 and 02 c's ceiling and rule, row by row: what a step, an interrupt call and a reading of a log come to, each with its condition.
+-- Document 01's table of refusals, with 02 f's 13 and its case of 2, 02 m's case of 2, and 02 c's ceiling and rule, row by row: what a step, an interrupt call and a reading of a log come to, each with its condition.
 use Prim.Native.Nat.{ℕ, _+_, _≤_, _<_}
 use mathlib.Core.Path.{_≡_}
-use mathlib.Core.Bool.{Bool, true, false, not, _&&_}
+use mathlib.Core.Bool.{Bool, true, false, not, _&&_, _||_}
 use mathlib.Core.List.{List}
 use mathlib.Core.Option.{some}
 use lib.ListN.{length, drop}
@@ -10,7 +10,7 @@ use Rattle.sheet.specs.declared.GapRule.{GapRule}
 use Rattle.sheet.specs.declared.Found.the-variants as found
 use Rattle.sheet.specs.declared.Entry.{Entry}
 use Rattle.sheet.specs.declared.Entry.the-variants as entry
-use Rattle.sheet.specs.Psw.{IE, flagOf, fixedOf}
+use Rattle.sheet.specs.Psw.{IE, flagOf, nativeOf, fixedOf}
 use Rattle.sheet.specs.Log.{rule, risen, recordAt}
 use Rattle.sheet.specs.World.{World, pswOf}
 use Rattle.sheet.specs.Handler.{Event, done, run, tally}
@@ -28,6 +28,8 @@ space = 1048576
 -- what number 2 is given for
 pub data Unsound (w : World) : Type 0 where
   fixed-bit : fixedOf (pswOf (w .state)) ≡ false → Unsound w
+  -- MD is 0 without the permission to write it
+  mode-unwritable : nativeOf (pswOf (w .state)) ≡ false → w .state .marks .writable ≡ false → Unsound w
   tape-place : length (w .tape) < w .state .progress .tape → Unsound w
   log-place : length (w .log) < w .state .progress .log → Unsound w
   count-over : 4294967295 < w .state .progress .count → Unsound w
@@ -37,6 +39,7 @@ pub data Unsound (w : World) : Type 0 where
 pub record Passes (w : World) : Type 0 where
   pub fit : length (w .ram) + length (w .rom) ≤ space
   pub fixed : fixedOf (pswOf (w .state)) ≡ true
+  pub mode-in : (nativeOf (pswOf (w .state)) || w .state .marks .writable) ≡ true
   pub tape-in : w .state .progress .tape ≤ length (w .tape)
   pub log-in : w .state .progress .log ≤ length (w .log)
   pub count-in : w .state .progress .count ≤ 4294967295
@@ -50,12 +53,12 @@ IsPrefix b = (x : Prefix) × (prefixOf b ≡ some x)
 pub data StepOf (w : World) : Seen Unit → Type 0 where
   -- 1: RAM and ROM together exceed 1,048,576 bytes
   too-large : space < length (w .ram) + length (w .rom) → StepOf w (stops 1)
-  -- 2: a fixed PSW bit is wrong, a place lies beyond its buffer, the count exceeds 4,294,967,295, or it is both marked and halted
+  -- 2: a fixed PSW bit is wrong, MD is 0 without the permission, a place lies beyond its buffer, the count exceeds 4,294,967,295, or it is both marked and halted
   unsound : length (w .ram) + length (w .rom) ≤ space → Unsound w → StepOf w (stops 2)
   -- 8: a step of a halted machine
   asleep : Passes w → w .state .marks .halted ≡ true → StepOf w (stops 8)
-  -- 4: a fourth prefix byte is met
-  fourth-prefix : Passes w → w .state .marks .halted ≡ false → ((j : ℕ) → j < 4 → IsPrefix (source w j)) → StepOf w (stops 4)
+  -- 4: a fourth prefix byte is met, in native mode: the 8080 mode has no prefixes
+  fourth-prefix : Passes w → w .state .marks .halted ≡ false → nativeOf (pswOf (w .state)) ≡ true → ((j : ℕ) → j < 4 → IsPrefix (source w j)) → StepOf w (stops 4)
   -- 3: the bytes name no instruction that is in
   no-instruction : {n : ℕ} → Passes w → w .state .marks .halted ≡ false → instructionIn w ≡ unknown 3 n → StepOf w (stops 3)
   -- 5: fewer tape bytes remain than a port read needs

@@ -54,7 +54,7 @@ cyclesOf (runReported n w k b) = b .cycles
 -- ---- three machines: SUB4S, ADJ4A (document 01's second and first example), and one that is halted
 
 abbrev pub machine : List ℕ → Bool → ℕ → List ℕ → World
-machine file halted count ram = world (record { file = file; marks = marksOf halted false; progress = record { tape = 0; log = 0; count = count } }) ram [] [] []
+machine file halted count ram = world (record { file = file; marks = marksOf halted false false; progress = record { tape = 0; log = 0; count = count } }) ram [] [] []
 
 abbrev pub subtracting : World
 subtracting =

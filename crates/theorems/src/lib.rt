@@ -2,18 +2,16 @@
 use engine::Ran;
 use sheet::State;
 use step_calls::Answer;
-ghost use Rattle.sheet.specs.World.{world};
-ghost use Rattle.theorems.specs.RepeatCode.{StepCall, InterruptCall};
-ghost use Rattle.theorems.specs.LogCode.{RunCall};
+ghost use Rattle.theorems.specs.Lent.{StepCallOn, RunCallOn, InterruptCallOn};
 
 pub fn step(s: State, ram: &mut [u8], rom: &[u8], tape: &[u8], log: &mut [u8]) -> Answer
-    ensures { λ r. ⌜ StepCall (world s (now (ram .entry)) (now (rom .entry)) (now (tape .entry)) (now (log .entry))) (r .number) (world (r .state) (now (ram .exit)) (now (rom .entry)) (now (tape .entry)) (now (log .exit))) (r .bus) ⌝ }
+    ensures { λ r. ⌜ StepCallOn s ram rom tape log r ⌝ }
 {
     engine::step(s, ram, rom, tape, log)
 }
 
 pub fn run(s: State, ram: &mut [u8], rom: &[u8], tape: &[u8], log: &mut [u8], budget: u16) -> Ran
-    ensures { λ r. ⌜ RunCall budget (world s (now (ram .entry)) (now (rom .entry)) (now (tape .entry)) (now (log .entry))) (r .number) (world (r .state) (now (ram .exit)) (now (rom .entry)) (now (tape .entry)) (now (log .exit))) (r .steps) (r .bus) ⌝ }
+    ensures { λ r. ⌜ RunCallOn budget s ram rom tape log r ⌝ }
 {
     engine::run(s, ram, rom, tape, log, budget)
 }
@@ -27,7 +25,7 @@ pub fn interrupt(
     vector: u8,
     maskable: bool,
 ) -> Answer
-    ensures { λ r. ⌜ InterruptCall vector maskable (world s (now (ram .entry)) (now (rom .entry)) (now (tape .entry)) (now (log .entry))) (r .number) (world (r .state) (now (ram .exit)) (now (rom .entry)) (now (tape .entry)) (now (log .entry))) (r .bus) ⌝ }
+    ensures { λ r. ⌜ InterruptCallOn vector maskable s ram rom tape log r ⌝ }
 {
     step_calls::interrupt(s, ram, rom, tape, log, vector, maskable)
 }

@@ -125,6 +125,10 @@ pub fn sentence(name: &str, operands: &[Operand], here: &Here) -> Option<Vec<Pie
         }
         ("BRK", [Fixed(_)]) => words(format!("call {}", vector(3))),
         ("BRK", [Number(n, _)]) => words(format!("call {}", vector(*n))),
+        ("BRKEM", [Number(n, _)]) => words(format!(
+            "go into 8080 code by interrupt vector {}; it comes back here by its RETEM",
+            both(*n)
+        )),
         ("BRKV", []) => words(format!(
             "if V is 1 (a result had no room with its sign), call {}",
             vector(4)

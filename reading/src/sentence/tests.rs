@@ -28,6 +28,7 @@ fn plain_ones() {
         ("MOV WORD SS:[BP+FFFE],AW", "The word at SS:BP - 2 becomes AW."),
         ("AND AL,F0", "Keep only the upper digit of AL, bits 4 to 7 (F0h); its other bits become 0."),
         ("BR FFF0:0010", "Go on at FFF10, in segment FFF0h, offset 0010h."),
+        ("BRKEM 40", "Go into 8080 code by interrupt vector 40h (64); it comes back here by its RETEM."),
         (
             "INS AL,03,WORD DS1:[IY]",
             "Store the lowest 4 bits of AW at DS1:IY, from the bit on whose number is in AL; AL and IY go on behind them.",

@@ -1,6 +1,5 @@
 //! Makes, answers and compares streams of cases, and lists port logs.
 
-use second::cards::CARDS;
 use second::gap_rule::GapRule;
 use second::judge::answer::answer_stream;
 use second::judge::diff::{diff, Answers};
@@ -39,7 +38,7 @@ fn write_cases(seed: &str, count: &str, first: &str, stream: &str) -> Result<Exi
     let seed = number(seed)?;
     let count = number(count)?;
     let first = number(first)?;
-    let stream = Stream::of_word(stream, CARDS).ok_or(format!("there is no stream of {stream}"))?;
+    let stream = Stream::of_word(stream).ok_or(format!("there is no stream of {stream}"))?;
     let mut output = BufWriter::new(io::stdout().lock());
     stream
         .write(seed, first, count, &mut output)
@@ -56,7 +55,7 @@ fn number(word: &str) -> Result<u64, String> {
 fn answer_input() -> Result<ExitCode, String> {
     let mut input = BufReader::new(io::stdin().lock());
     let mut output = BufWriter::new(io::stdout().lock());
-    answer_stream(&mut input, &mut output, CARDS)
+    answer_stream(&mut input, &mut output)
         .and_then(|()| output.flush())
         .map_err(|error| error.to_string())?;
     Ok(ExitCode::SUCCESS)

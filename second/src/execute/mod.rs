@@ -13,7 +13,6 @@ mod shift;
 mod stack;
 mod transfer;
 
-use crate::cards::Cards;
 use crate::machine::{GoOnWhile, Machine, Outcome};
 use crate::refusal::Refusal;
 use crate::state::{AW, CW, CY, DIR, DS0, DS1, DW, IE, PS, SS};
@@ -257,7 +256,7 @@ impl Machine<'_> {
             0x33 => self.extract_field_of_register_length(),
             0x39 => self.insert_field_of_immediate_length(),
             0x3B => self.extract_field_of_immediate_length(),
-            0xFF if self.cards == Cards::In => {
+            0xFF => {
                 self.break_for_emulation();
                 Ok(())
             }

@@ -1,6 +1,5 @@
 //! Makes the call of each case on this engine.
 
-use crate::cards::Cards;
 use crate::judge::case::{Call, Case, End};
 use crate::judge::result::CallResult;
 use crate::machine::{Machine, RunReport, Tally};
@@ -9,14 +8,10 @@ use crate::refusal::Refusal;
 use std::io::{self, Read, Write};
 
 /// Answers a stream to its end, which may lie in the middle of a case.
-pub fn answer_stream(
-    cases: &mut impl Read,
-    results: &mut impl Write,
-    cards: Cards,
-) -> io::Result<()> {
+pub fn answer_stream(cases: &mut impl Read, results: &mut impl Write) -> io::Result<()> {
     loop {
-        match Case::read(cases, cards) {
-            Ok(case) => results.write_all(&answer(&case, cards))?,
+        match Case::read(cases) {
+            Ok(case) => results.write_all(&answer(&case))?,
             Err(End::OfStream) => return Ok(()),
             Err(End::Unfit(why)) => {
                 eprintln!("judge: the stream ends here: {why}");
@@ -27,8 +22,8 @@ pub fn answer_stream(
     }
 }
 
-pub fn answer(case: &Case, cards: Cards) -> Vec<u8> {
-    let by = |call: &dyn Fn(&mut Machine) -> RunReport| answer_call(case, cards, call);
+pub fn answer(case: &Case) -> Vec<u8> {
+    let by = |call: &dyn Fn(&mut Machine) -> RunReport| answer_call(case, call);
     match case.call {
         Call::Step => by(&|machine| report(machine.step(), 1)),
         // an interpreter without readings to reuse has one way to run
@@ -53,7 +48,7 @@ fn report(outcome: Result<Tally, Refusal>, steps: u32) -> RunReport {
     }
 }
 
-fn answer_call(case: &Case, cards: Cards, call: &dyn Fn(&mut Machine) -> RunReport) -> Vec<u8> {
+fn answer_call(case: &Case, call: &dyn Fn(&mut Machine) -> RunReport) -> Vec<u8> {
     let mut lent = case.buffers();
     let mut machine = Machine::new(
         case.state.clone(),
@@ -62,7 +57,6 @@ fn answer_call(case: &Case, cards: Cards, call: &dyn Fn(&mut Machine) -> RunRepo
         &case.tape,
         &mut lent.log,
     );
-    machine.cards = cards;
     let report = call(&mut machine);
     let state = machine.state;
     let result = CallResult {

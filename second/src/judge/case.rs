@@ -1,6 +1,5 @@
 //! One case: a call, its arguments and the buffers that are lent to it.
 
-use crate::cards::Cards;
 use crate::gap_rule::GapRule;
 use crate::state::{State, DS0, DS1, PS, SS};
 use std::io::{self, Read, Write};
@@ -14,7 +13,7 @@ pub const MOST_PATCHES: u16 = 4_096;
 const HEADER_LENGTH: usize = 72;
 const PATCH_LENGTH: usize = 6;
 
-/// The permission to write the mode, zero without the cards.
+/// The permission to write the mode.
 const PERMISSION: usize = 62;
 /// From here on a header has zeros: fields of requests that are not built, and bytes that nothing uses.
 const ZEROS_FROM: usize = 64;
@@ -107,10 +106,10 @@ impl From<io::Error> for End {
 }
 
 impl Case {
-    pub fn read(stream: &mut impl Read, cards: Cards) -> Result<Case, End> {
+    pub fn read(stream: &mut impl Read) -> Result<Case, End> {
         let mut header = [0; HEADER_LENGTH];
         stream.read_exact(&mut header)?;
-        let case = Case::of_header(&header, cards)?;
+        let case = Case::of_header(&header)?;
         let (tape_length, patch_count) = (word_at(&header, 54), word_at(&header, 58));
         if tape_length > LONGEST_TAPE {
             return Err(End::Unfit("the tape is too long"));
@@ -134,15 +133,14 @@ impl Case {
         })
     }
 
-    fn of_header(header: &[u8; HEADER_LENGTH], cards: Cards) -> Result<Case, End> {
+    fn of_header(header: &[u8; HEADER_LENGTH]) -> Result<Case, End> {
         if [1, 2, 61, PERMISSION, 63]
             .iter()
             .any(|&offset| header[offset] > 1)
         {
             return Err(End::Unfit("a mark is neither 0 nor 1"));
         }
-        let permission_without_cards = cards == Cards::Out && header[PERMISSION] != 0;
-        if permission_without_cards || header[ZEROS_FROM..].iter().any(|&byte| byte != 0) {
+        if header[ZEROS_FROM..].iter().any(|&byte| byte != 0) {
             return Err(End::Unfit("something stands where there must be zero"));
         }
         let case = Case {

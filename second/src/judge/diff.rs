@@ -1,6 +1,5 @@
 //! Compares two engines' answers to one stream and says in words where they differ.
 
-use crate::cards::Cards;
 use crate::judge::case::{Call, Case, End};
 use crate::judge::result::{fields, length_for, Field, Value};
 use crate::judge::{names, names_8080};
@@ -46,8 +45,7 @@ pub fn diff(
 ) -> io::Result<Summary> {
     let mut summary = Summary::default();
     loop {
-        // what the engines make of a case without the cards is theirs to say
-        let case = match Case::read(&mut cases, Cards::In) {
+        let case = match Case::read(&mut cases) {
             Ok(case) => case,
             Err(End::OfStream) => break,
             Err(End::Unfit(why)) => {

@@ -1,6 +1,5 @@
 //! Reads one instruction of an image and puts it into words.
 
-use crate::cards::{Cards, CARDS};
 use crate::memory::ADDRESS_SPACE;
 use crate::refusal::Refusal;
 
@@ -371,7 +370,7 @@ impl Reader<'_> {
                 self.field_of_fixed_length()?,
                 self.source(Word)
             ),
-            0xFF if CARDS == Cards::In => format!("BRKEM {}", self.immediate(Byte)?),
+            0xFF => format!("BRKEM {}", self.immediate(Byte)?),
             _ => return Err(UNKNOWN),
         })
     }

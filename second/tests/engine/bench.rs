@@ -1,6 +1,5 @@
 //! A machine with code at 2000:0000, ready to be stepped.
 
-use second::cards::Cards;
 use second::machine::{Machine, RunReport, Tally};
 use second::refusal::Refusal;
 use second::state::{State, DS0, DS1, MODE, PS, SS};
@@ -13,7 +12,6 @@ pub const TARGET: usize = 0x10000;
 #[derive(Clone, Debug, PartialEq, Eq)]
 pub struct Bench {
     pub state: State,
-    pub cards: Cards,
     pub ram: Vec<u8>,
     pub rom: Vec<u8>,
     pub tape: Vec<u8>,
@@ -28,7 +26,6 @@ pub fn bench(code: &[u8]) -> Bench {
     state.segment[DS0] = 0x0000;
     let bench = Bench {
         state,
-        cards: Cards::Out,
         ram: vec![0; 0x30000],
         rom: Vec::new(),
         tape: Vec::new(),
@@ -53,16 +50,11 @@ impl Bench {
         self
     }
 
-    pub fn with_cards(mut self) -> Bench {
-        self.cards = Cards::In;
-        self
-    }
-
     /// Where BRKEM leads: the 8080 mode and the permission.
     pub fn in_8080_mode(mut self) -> Bench {
         self.state.psw &= !MODE;
         self.state.may_write_mode = true;
-        self.with_cards()
+        self
     }
 
     pub fn bytes(mut self, address: usize, bytes: &[u8]) -> Bench {
@@ -93,7 +85,6 @@ impl Bench {
             &self.tape,
             &mut self.log,
         );
-        machine.cards = self.cards;
         let answer = call(&mut machine);
         self.state = machine.state;
         answer

@@ -1,7 +1,7 @@
 //! Generated streams: always the same for a seed, and what they reach.
 
-use crate::stream::{answer, bytes_of};
-use second::cards::Cards;
+use crate::stream::bytes_of;
+use second::judge::answer::answer;
 use second::judge::case::{Call, Case};
 use second::judge::generate::encodings::{has_operands, walk, LENGTH_OF_WALK};
 use second::judge::generate::Stream;
@@ -24,14 +24,18 @@ fn a_seed_always_makes_the_same_stream() {
 
 #[test]
 fn generated_cases_survive_writing_and_reading() {
-    for stream in [Stream::Calls, Stream::Runs, Stream::QuickerRuns] {
+    for stream in [
+        Stream::Calls,
+        Stream::Runs,
+        Stream::QuickerRuns,
+        Stream::Cards,
+        Stream::CardRuns,
+        Stream::QuickerCardRuns,
+    ] {
         for number in 0..2_000 {
             let case = stream.case(3, number);
             let bytes = bytes_of(&case);
-            assert_eq!(
-                Case::read(&mut &bytes[..], Cards::Out).expect("a whole case"),
-                case
-            );
+            assert_eq!(Case::read(&mut &bytes[..]).expect("a whole case"), case);
         }
     }
 }

@@ -1,8 +1,7 @@
 //! Case streams: their bytes, their answers and the words of a mismatch.
 
-use second::cards::Cards;
 use second::gap_rule::GapRule;
-use second::judge::answer::{self, answer_stream};
+use second::judge::answer::{answer, answer_stream};
 use second::judge::case::{Call, Case, Lent, Patch};
 use second::judge::diff::{diff, Answers};
 use second::judge::generate::encodings::{has_operands, is_in, walk, LENGTH_OF_WALK};
@@ -34,11 +33,6 @@ fn step_of(code: &[u8]) -> Case {
     }
 }
 
-/// This engine's answer without the cards.
-pub fn answer(case: &Case) -> Vec<u8> {
-    answer::answer(case, Cards::Out)
-}
-
 pub fn bytes_of(case: &Case) -> Vec<u8> {
     let mut bytes = Vec::new();
     case.write(&mut bytes).expect("a vector takes all bytes");
@@ -55,6 +49,7 @@ fn a_case_is_laid_out_as_the_table_says() {
     case.state.log_place = 2;
     case.state.count = 0x12345;
     case.state.after_segment_load = true;
+    case.state.may_write_mode = true;
     case.budget = 0x1234;
     case.gap_rule = GapRule::New;
     let bytes = bytes_of(&case);
@@ -63,14 +58,11 @@ fn a_case_is_laid_out_as_the_table_says() {
     expected.extend([9, 0, 10, 0, 11, 0, 12, 0, 13, 0, 0x02, 0xF0]);
     expected.extend([1, 0, 0, 0, 2, 0, 0, 0, 0x45, 0x23, 0x01, 0]);
     expected.extend([16, 0, 0, 0, 0, 0, 0, 0, 1, 0, 4, 0, 1, 0, 0x90]);
-    expected.extend([1, 0, 1]);
+    expected.extend([1, 1, 1]);
     expected.extend([0; 8]);
     expected.extend([0, 0, 0, 0, 0, 0x40, 0xAB]);
     assert_eq!(bytes, expected);
-    assert_eq!(
-        Case::read(&mut &bytes[..], Cards::Out).expect("a whole case"),
-        case
-    );
+    assert_eq!(Case::read(&mut &bytes[..]).expect("a whole case"), case);
 }
 
 #[test]
@@ -84,7 +76,7 @@ fn an_answer_is_laid_out_as_the_table_says() {
     ram[0] = 0x50;
     expected.extend(sum(&ram).to_le_bytes());
     expected.extend(sum(&[0x90; 4]).to_le_bytes());
-    // the pushed word is dropped, and what follows belongs to requests that are not built
+    // the pushed word is dropped, and what follows is zero: marks that are not set, and requests that are not built
     expected.extend([2, 0, 0, 0]);
     expected.extend([0; 26]);
     assert_eq!((bytes.len(), bytes), (88, expected));
@@ -166,7 +158,7 @@ fn log_readings_obey_the_gap_rule() {
 
 fn answers_of(stream: &[u8]) -> Vec<u8> {
     let mut results = Vec::new();
-    answer_stream(&mut &stream[..], &mut results, Cards::Out).expect("memory does not fail");
+    answer_stream(&mut &stream[..], &mut results).expect("memory does not fail");
     results
 }
 
@@ -208,14 +200,14 @@ fn what_does_not_fit_ends_the_stream() {
 
 #[test]
 fn values_that_a_field_has_not_end_the_stream() {
-    // the halted mark, the masking, the mark of a segment load, the gap rule, the kind of the patch
-    for (offset, last) in [(1, 1), (2, 1), (61, 1), (63, 1), (72, 2)] {
+    // the halted mark, the masking, the mark of a segment load, the permission, the gap rule, the kind of the patch
+    for (offset, last) in [(1, 1), (2, 1), (61, 1), (62, 1), (63, 1), (72, 2)] {
         assert!(answered_with(offset, &[last]) > 1);
         assert_eq!(answered_with(offset, &[last + 1]), 1);
         assert_eq!(answered_with(offset, &[255]), 1);
     }
-    // requests that are not built, and zero bytes
-    for offset in [62, 64, 65, 66, 67, 68, 69, 70, 71] {
+    // a request that is not built, and zero bytes
+    for offset in [64, 65, 66, 67, 68, 69, 70, 71] {
         assert_eq!(answered_with(offset, &[1]), 1);
         assert_eq!(answered_with(offset, &[0x80]), 1);
     }
@@ -260,6 +252,7 @@ fn patches_past_their_buffer_are_skipped() {
 fn names_know_how_long_instructions_are() {
     let moves_pc = |opcode: &[u8]| match opcode[0] {
         0x70..=0x7F | 0x9A | 0xC2 | 0xC3 | 0xCA..=0xCF | 0xE0..=0xE3 | 0xE8..=0xEB => true,
+        0x0F => opcode[1] == 0xFF,
         0x62 => true,
         0xF6 | 0xF7 => opcode[1] >> 3 & 7 >= 6,
         0xFF => (2..=5).contains(&(opcode[1] >> 3 & 7)),

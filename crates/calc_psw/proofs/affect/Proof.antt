@@ -8,4 +8,4 @@ unfolding settled
 returns c = cc
 
 pub affect-spec : {M : Type 1} → statement M
-affect-spec = tie.close (tie.spec (λ c κs. search needs) (λ c κs. search needs) (λ c κs. search needs) (λ c κs. search needs) returns)
+affect-spec = tie.close (tie.spec (λ c κs. search needs) (λ c κs. search needs) (λ c κs. search needs) (λ c κs. search needs) (λ c κs. search needs) returns)

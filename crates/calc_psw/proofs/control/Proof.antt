@@ -6,7 +6,7 @@ use Rattle.calc_psw.proofs.control.Tie as tie
 
 returns : tie.Need-returns
 unfolding settled
-returns c = c .pack .ensures ∙ rw (c .before .unpack .ensures)
+returns c = c .pack .ensures ∙ rw (c .before .unpack .ensures, c .before .before .native .ensures)
 
 pub control-spec : {M : Type 1} → statement M
-control-spec = tie.close (tie.spec (λ c κs. search needs) (λ c κs. search needs) returns)
+control-spec = tie.close (tie.spec (λ c κs. search needs) (λ c κs. search needs) (λ c κs. search needs) returns)

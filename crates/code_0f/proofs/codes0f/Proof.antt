@@ -21,10 +21,13 @@ returns-5 : tie.Need-returns-5
 returns-5 c = ⊎-elim (λ e. at-one 0x39 refl refl e (rw e at (c .field2 .ensures))) (λ e. at-one 0x3b refl refl e (rw (e, c .before .before .seg-or .ensures) at (c .field2 .ensures))) (c .before .match .keys6)
 
 returns-6 : tie.Need-returns-6
-returns-6 c = at-rest 0x20 224 ((0x20 ∷ []) ∷ (0x22 ∷ []) ∷ (0x26 ∷ []) ∷ (0x28 ∷ 0x2a ∷ []) ∷ (0x31 ∷ 0x33 ∷ []) ∷ (0x39 ∷ 0x3b ∷ []) ∷ []) refl (c .match .rest) (search needs) (search needs)
+returns-6 c = at-one 0xff refl refl (c .before .match .keys7) (c .emulation .ensures)
 
 returns-7 : tie.Need-returns-7
-returns-7 c = ⊎-elim (λ w. at-one 0x20 refl refl (w .0 .keys1) (decodes-known (rw (w .1, c .before .before .seg-or .ensures) at (c .computes .ensures)))) (⊎-elim (λ w. at-one 0x22 refl refl (w .0 .keys2) (decodes-known (rw (w .1, c .before .before .seg-or .ensures) at (c .computes .ensures)))) (λ w. at-one 0x26 refl refl (w .0 .keys3) (decodes-known (rw (w .1, c .before .before .seg-or .ensures) at (c .computes .ensures))))) (c .before .match .came)
+returns-7 c = at-rest 0x20 224 ((0x20 ∷ []) ∷ (0x22 ∷ []) ∷ (0x26 ∷ []) ∷ (0x28 ∷ 0x2a ∷ []) ∷ (0x31 ∷ 0x33 ∷ []) ∷ (0x39 ∷ 0x3b ∷ []) ∷ (0xff ∷ []) ∷ []) refl (c .match .rest) (search needs) (search needs)
+
+returns-8 : tie.Need-returns-8
+returns-8 c = ⊎-elim (λ w. at-one 0x20 refl refl (w .0 .keys1) (decodes-known (rw (w .1, c .before .before .seg-or .ensures) at (c .computes .ensures)))) (⊎-elim (λ w. at-one 0x22 refl refl (w .0 .keys2) (decodes-known (rw (w .1, c .before .before .seg-or .ensures) at (c .computes .ensures)))) (λ w. at-one 0x26 refl refl (w .0 .keys3) (decodes-known (rw (w .1, c .before .before .seg-or .ensures) at (c .computes .ensures))))) (c .before .match .came)
 
 pub codes0f-spec : {M : Type 1} → statement M
 codes0f-spec =
@@ -40,6 +43,8 @@ codes0f-spec =
     returns-4
     (λ c κs. search needs)
     returns-5
-    returns-6
     (λ c κs. search needs)
-    returns-7)
+    returns-6
+    returns-7
+    (λ c κs. search needs)
+    returns-8)

@@ -18,10 +18,13 @@ returns-3 : tie.Need-returns-3
 returns-3 c = at-rest 0x9b 1 [] refl tt (omega arith) (omega arith)
 
 returns-4 : tie.Need-returns-4
-returns-4 c = ⊎-elim (λ w. at-one 0x9c refl refl (w .0 .taken) (decodes-known (rw (w .1) at (c .stacks .ensures)))) (λ w. at-one 0x9d refl refl (omega arith) (decodes-known (rw (w .1) at (c .stacks .ensures)))) (c .before .if6 .came)
+returns-4 c = at-one 0x9c refl refl (c .before .if5 .taken) (decodes-known (c .stacks .ensures))
 
 returns-5 : tie.Need-returns-5
-returns-5 c = ⊎-elim (λ w. at-one 0x9e refl refl (w .0 .taken) (decodes-known (rw (w .1) at (c .transfers .ensures)))) (λ w. at-one 0x9f refl refl (omega arith) (decodes-known (rw (w .1) at (c .transfers .ensures)))) (c .before .if7 .came)
+returns-5 c = at-one 0x9d refl refl (c .before .if6 .taken) (decodes-known (c .modes .ensures))
+
+returns-6 : tie.Need-returns-6
+returns-6 c = ⊎-elim (λ w. at-one 0x9e refl refl (w .0 .taken) (decodes-known (rw (w .1) at (c .transfers .ensures)))) (λ w. at-one 0x9f refl refl (omega arith) (decodes-known (rw (w .1) at (c .transfers .ensures)))) (c .before .if7 .came)
 
 pub codes98-spec : {M : Type 1} → statement M
 codes98-spec =
@@ -37,4 +40,6 @@ codes98-spec =
     (λ c κs. search needs)
     returns-4
     (λ c κs. search needs)
-    returns-5)
+    returns-5
+    (λ c κs. search needs)
+    returns-6)

@@ -11,7 +11,10 @@ returns : tie.Need-returns
 returns c = at-one 0xcd refl refl (c .before .before .if1 .taken) (with-byte _ (c .before .code-byte .ensures) (c .interrupts .ensures))
 
 returns-2 : tie.Need-returns-2
-returns-2 c = ⊎-elim (λ w. at-one 0xcc refl refl (w .0 .keys1) (decodes-known (rw (w .1) at (c .interrupts2 .ensures)))) (⊎-elim (λ w. at-one 0xce refl refl (w .0 .keys2) (decodes-known (rw (w .1) at (c .interrupts2 .ensures)))) (λ w. at-one 0xcf refl refl (omega arith) (decodes-known (rw (w .1) at (c .interrupts2 .ensures))))) (c .before .match .came)
+returns-2 c = at-one 0xcf refl refl (c .before .if2 .taken) (decodes-known (c .modes .ensures))
+
+returns-3 : tie.Need-returns-3
+returns-3 c = ⊎-elim (λ w. at-one 0xcc refl refl (w .0 .taken) (decodes-known (rw (w .1) at (c .interrupts2 .ensures)))) (λ w. at-one 0xce refl refl (omega arith) (decodes-known (rw (w .1) at (c .interrupts2 .ensures)))) (c .before .if3 .came)
 
 pub codescc-spec : {M : Type 1} → statement M
 codescc-spec =
@@ -22,4 +25,6 @@ codescc-spec =
     (λ c κs. search needs)
     returns
     (λ c κs. search needs)
-    returns-2)
+    returns-2
+    (λ c κs. search needs)
+    returns-3)

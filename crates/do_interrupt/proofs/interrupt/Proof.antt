@@ -1,4 +1,3 @@
-use Rattle.sheet.specs.Traps.{untrapped}
 use Rattle.sheet.specs.Interrupts.{interrupts}
 use Rattle.sheet.proofs.Lifted.{memory-known}
 use borrow.Author.Needs.{needs}
@@ -6,7 +5,7 @@ use Rattle.do_interrupt.proofs.interrupt.Statement.{statement}
 use Rattle.do_interrupt.proofs.interrupt.Tie as tie
 
 pub interrupt-spec : {M : Type 1} → statement M
-unfolding interrupts untrapped
+unfolding interrupts
 interrupt-spec =
     tie.close
     (tie.spec
@@ -18,10 +17,6 @@ interrupt-spec =
     (λ c κs. search needs)
     (λ c. search needs)
     (λ c κs. search needs)
-    (λ c. search needs)
-    (λ c κs. search needs)
-    (λ c. search needs)
-    (λ c. search (memory-known interrupts, needs))
     (λ c. search needs)
     (λ c. search (memory-known interrupts, needs))
     (λ c. search needs)

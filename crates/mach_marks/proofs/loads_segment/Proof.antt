@@ -32,6 +32,14 @@ returns-7 : tie.Need-returns-7
 unfolding loadsSegment
 returns-7 c = search (known loadsSegment, needs)
 
+returns-8 : tie.Need-returns-8
+unfolding loadsSegment
+returns-8 c = search (known loadsSegment, needs)
+
+returns-9 : tie.Need-returns-9
+unfolding loadsSegment
+returns-9 c = search (known loadsSegment, needs)
+
 pub loads-segment-spec : {M : Type 1} → statement M
 loads-segment-spec =
     tie.close
@@ -44,10 +52,14 @@ loads-segment-spec =
     (λ c. search needs)
     (λ c. search needs)
     (λ c. search needs)
+    (λ c. search needs)
+    (λ c. search needs)
     returns
     returns-2
     returns-3
     returns-4
     returns-5
     returns-6
-    returns-7)
+    returns-7
+    returns-8
+    returns-9)

@@ -48,15 +48,10 @@ returns-11 : tie.Need-returns-11
 unfolding popIn
 returns-11 c = search (known popIn, needs)
 
-returns-12 : tie.Need-returns-12
-unfolding popIn
-returns-12 c = search (known popIn, needs)
-
 pub pop-in-spec : {M : Type 1} → statement M
 pop-in-spec =
     tie.close
     (tie.spec
-    (λ c. search needs)
     (λ c. search needs)
     (λ c. search needs)
     (λ c. search needs)
@@ -78,5 +73,4 @@ pop-in-spec =
     returns-8
     returns-9
     returns-10
-    returns-11
-    returns-12)
+    returns-11)

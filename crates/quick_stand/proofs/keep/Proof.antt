@@ -5,7 +5,7 @@ use Rattle.quick_stand.proofs.keep.Statement.{statement}
 use Rattle.quick_stand.proofs.keep.Tie as tie
 
 returns : tie.Need-returns
-returns c = keeps (c .before .before .before .args .stand .now) _ _ _ _ _ (search needs) (c .before .before .digit .ensures) (c .before .digit2 .ensures) (search needs) refl
+returns c = keeps (c .before .before .before .before .args .stand .now) _ _ _ _ _ _ (search needs) (c .before .before .before .digit .ensures) (c .before .before .digit2 .ensures) (c .before .digit3 .ensures) (search needs) refl
 
 pub keep-spec : {M : Type 1} → statement M
 keep-spec =
@@ -13,6 +13,9 @@ keep-spec =
     (tie.spec
     (λ c κs. search needs)
     (λ c κs. search needs)
+    (λ c κs. search needs)
+    (λ c. search needs)
+    (λ c. search needs)
     (λ c. search needs)
     (λ c. search needs)
     (λ c. search needs)

@@ -7,4 +7,4 @@ returns : tie.Need-returns
 returns c = search (marks-are, needs)
 
 pub marks-spec : {M : Type 1} → statement M
-marks-spec = tie.close (tie.spec (λ c. search needs) (λ c. search needs) returns)
+marks-spec = tie.close (tie.spec (λ c. search needs) (λ c. search needs) (λ c. search needs) returns)

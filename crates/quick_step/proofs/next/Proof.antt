@@ -20,6 +20,8 @@ next-spec =
     returns
     (λ c. search needs)
     (λ c κs. search needs)
+    (λ c. search needs)
+    (λ c κs. search needs)
     returns-2
     (λ c. search needs)
     (λ c. search needs)

@@ -48,10 +48,6 @@ returns-11 : tie.Need-returns-11
 unfolding stackText
 returns-11 c = search (adds-known stackText, needs)
 
-returns-12 : tie.Need-returns-12
-unfolding stackText
-returns-12 c = search (adds-known stackText, needs)
-
 pub put-stack-spec : {M : Type 1} → statement M
 put-stack-spec =
     tie.close
@@ -61,9 +57,6 @@ put-stack-spec =
     (λ c κs. search needs)
     (λ c. search needs)
     (λ c κs. search needs)
-    (λ c. search needs)
-    (λ c κs. search needs)
-    (λ c. search needs)
     (λ c. search needs)
     (λ c κs. search needs)
     (λ c. search needs)
@@ -101,5 +94,4 @@ put-stack-spec =
     returns-8
     returns-9
     returns-10
-    returns-11
-    returns-12)
+    returns-11)

@@ -32,6 +32,14 @@ returns-7 : tie.Need-returns-7
 unfolding instrText
 returns-7 c = search (adds-known-at instrText, needs)
 
+returns-8 : tie.Need-returns-8
+unfolding instrText
+returns-8 c = search (adds-known-at instrText, needs)
+
+returns-9 : tie.Need-returns-9
+unfolding instrText
+returns-9 c = search (adds-known-at instrText, needs)
+
 pub put-instr-spec : {M : Type 1} → statement M
 put-instr-spec =
     tie.close
@@ -50,10 +58,17 @@ put-instr-spec =
     (λ c κs. search needs)
     (λ c. search needs)
     (λ c κs. search needs)
+    (λ c. search needs)
+    (λ c κs. search needs)
+    (λ c. search needs)
+    (λ c. search needs)
+    (λ c κs. search needs)
     returns
     returns-2
     returns-3
     returns-4
     returns-5
     returns-6
-    returns-7)
+    returns-7
+    returns-8
+    returns-9)

@@ -20,10 +20,6 @@ returns-4 : tie.Need-returns-4
 unfolding interruptText
 returns-4 c = search (adds-known interruptText, needs)
 
-returns-5 : tie.Need-returns-5
-unfolding interruptText
-returns-5 c = search (adds-known interruptText, needs)
-
 pub put-interrupt-spec : {M : Type 1} → statement M
 put-interrupt-spec =
     tie.close
@@ -41,11 +37,7 @@ put-interrupt-spec =
     (λ c. search needs)
     (λ c. search needs)
     (λ c κs. search needs)
-    (λ c. search needs)
-    (λ c. search needs)
-    (λ c κs. search needs)
     returns
     returns-2
     returns-3
-    returns-4
-    returns-5)
+    returns-4)

@@ -21,7 +21,6 @@ check-spec =
     (tie.spec
     returns
     returns-2
-    (λ c. search needs)
     (λ c κs. search needs)
     (λ c κs. search needs)
     (λ c κs. search needs)

@@ -1,4 +1,4 @@
-use Rattle.step_execute.proofs.Laws.{at-control, at-quiet, at-through, at-told, of-blocks, of-computes, of-controls, of-interrupts, of-moves, of-multiplies, of-ports}
+use Rattle.step_execute.proofs.Laws.{at-card, at-control, at-marked, at-quiet, at-through, at-told, of-blocks, of-computes, of-controls, of-interrupts, of-modes, of-moves, of-multiplies, of-ports}
 use borrow.Author.Needs.{needs}
 use Rattle.step_execute.proofs.perform.Statement.{statement}
 use Rattle.step_execute.proofs.perform.Tie as tie
@@ -23,6 +23,12 @@ returns-6 c = search (at-through, of-ports, needs)
 
 returns-7 : tie.Need-returns-7
 returns-7 c = search (at-control, of-controls, needs)
+
+returns-8 : tie.Need-returns-8
+returns-8 c = search (at-marked, of-modes, needs)
+
+returns-9 : tie.Need-returns-9
+returns-9 c = search (at-card, needs)
 
 pub perform-spec : {M : Type 1} → statement M
 perform-spec =
@@ -50,6 +56,11 @@ perform-spec =
     (λ c κs. search needs)
     (λ c κs. search needs)
     (λ c. search needs)
+    (λ c κs. search needs)
+    (λ c κs. search needs)
+    (λ c. search needs)
+    (λ c κs. search needs)
+    (λ c. search needs)
     returns
     (λ c. search needs)
     returns-2
@@ -63,4 +74,9 @@ perform-spec =
     (λ c. search needs)
     (λ c. search needs)
     returns-6
-    returns-7)
+    returns-7
+    (λ c. search needs)
+    returns-8
+    (λ c. search needs)
+    (λ c. search needs)
+    returns-9)

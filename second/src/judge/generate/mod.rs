@@ -15,7 +15,6 @@ pub mod random;
 mod rewriting;
 mod runs;
 
-use crate::cards::Cards;
 use crate::judge::case::{Call, Case};
 use draft::Draft;
 use random::Random;
@@ -71,15 +70,14 @@ pub enum Stream {
 }
 
 impl Stream {
-    /// Streams of the 8080 mode are there with the cards alone.
-    pub fn of_word(word: &str, cards: Cards) -> Option<Stream> {
-        match (word, cards) {
-            ("calls", _) => Some(Stream::Calls),
-            ("runs", _) => Some(Stream::Runs),
-            ("quicker-runs", _) => Some(Stream::QuickerRuns),
-            ("cards", Cards::In) => Some(Stream::Cards),
-            ("card-runs", Cards::In) => Some(Stream::CardRuns),
-            ("quicker-card-runs", Cards::In) => Some(Stream::QuickerCardRuns),
+    pub fn of_word(word: &str) -> Option<Stream> {
+        match word {
+            "calls" => Some(Stream::Calls),
+            "runs" => Some(Stream::Runs),
+            "quicker-runs" => Some(Stream::QuickerRuns),
+            "cards" => Some(Stream::Cards),
+            "card-runs" => Some(Stream::CardRuns),
+            "quicker-card-runs" => Some(Stream::QuickerCardRuns),
             _ => None,
         }
     }

@@ -103,9 +103,9 @@ fn code_wraps_in_its_segment() {
 fn the_mode_decides_what_bytes_mean() {
     // 40 is MOV B,B here and INC AW natively; ED FD is RETEM here and IN AW,DW natively
     assert_eq!(card(&[0x40]).done().register(AW), 0);
-    assert_eq!(bench(&[0x40]).with_cards().done().register(AW), 1);
-    let native = bench(&[0xED, 0xFD]).with_cards().tape(&[1, 2]).done();
+    assert_eq!(bench(&[0x40]).done().register(AW), 1);
+    let native = bench(&[0xED, 0xFD]).tape(&[1, 2]).done();
     assert_eq!((native.state.pc, native.register(AW)), (1, 0x0201));
     assert_eq!(card(&[0x63]).done().register(BW), 0);
-    assert_eq!(bench(&[0x63]).with_cards().refused(), 3);
+    assert_eq!(bench(&[0x63]).refused(), 3);
 }

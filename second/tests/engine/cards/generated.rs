@@ -1,6 +1,5 @@
 //! Generated cases of the 8080 mode: what they reach.
 
-use second::cards::Cards;
 use second::judge::answer::answer;
 use second::judge::case::{Call, Case};
 use second::judge::generate::Stream;
@@ -31,7 +30,7 @@ fn every_first_byte_is_done_in_the_8080_mode() {
         if case.call != Call::Step || case.state.psw & MODE != 0 {
             continue;
         }
-        let after = answer(&case, Cards::In);
+        let after = answer(&case);
         match (code_of(&case), after[0]) {
             (Some(code), 0) => done.insert(if code.0 == 0xED { code } else { (code.0, 0) }),
             (Some((first, _)), 3) => refused.insert(first),
@@ -49,7 +48,7 @@ fn every_way_between_the_modes_is_gone() {
     let mut answers = HashSet::new();
     for number in 0..12_000 {
         let case = Stream::Cards.case(2, number);
-        let after = answer(&case, Cards::In);
+        let after = answer(&case);
         answers.insert((case.call as u8, after[0]));
         if case.call == Call::LogReading {
             continue;
@@ -105,7 +104,6 @@ fn changes_and_shared_places(case: &Case) -> (usize, usize) {
         &case.tape,
         &mut lent.log,
     );
-    machine.cards = Cards::In;
     let mut changes = 0;
     let mut places = [HashSet::new(), HashSet::new()];
     for _ in 0..case.budget {
@@ -142,33 +140,6 @@ fn card_runs_are_the_same_both_ways() {
         let run = Stream::CardRuns.case(4, number);
         let quicker = Stream::QuickerCardRuns.case(4, number);
         assert_eq!((run.call, quicker.call), (Call::Run, Call::QuickerRun));
-        assert_eq!(answer(&run, Cards::In), answer(&quicker, Cards::In));
-    }
-}
-
-#[test]
-fn they_survive_writing_and_reading_with_the_cards_alone() {
-    for number in 0..2_000 {
-        let case = Stream::Cards.case(3, number);
-        let mut bytes = Vec::new();
-        case.write(&mut bytes).expect("a vector takes all bytes");
-        let read = Case::read(&mut &bytes[..], Cards::In).expect("a whole case");
-        assert_eq!(read, case);
-        let without = Case::read(&mut &bytes[..], Cards::Out);
-        assert_eq!(without.is_ok(), !case.state.may_write_mode);
-    }
-}
-
-#[test]
-fn their_streams_are_there_with_the_cards_alone() {
-    for word in ["cards", "card-runs", "quicker-card-runs"] {
-        assert_eq!(Stream::of_word(word, Cards::Out), None);
-        assert!(Stream::of_word(word, Cards::In).is_some());
-    }
-    for word in ["calls", "runs", "quicker-runs"] {
-        assert_eq!(
-            Stream::of_word(word, Cards::Out),
-            Stream::of_word(word, Cards::In)
-        );
+        assert_eq!(answer(&run), answer(&quicker));
     }
 }

@@ -30,7 +30,7 @@ fn place(machine: &Bench) -> (u16, u16) {
 #[test]
 fn brkem_enters_the_8080_mode() {
     for kept in [0, IE | V | DIR | CY] {
-        let mut machine = with_vectors(bench(&BRKEM)).with_cards().flags(kept);
+        let mut machine = with_vectors(bench(&BRKEM)).flags(kept);
         assert_eq!(machine.step(), Ok(5));
         assert_eq!(place(&machine), (0x1234, 0x5678));
         assert_eq!(saved(&machine, 0x1FA), [3, 0x2000, 0xF002 | kept]);
@@ -39,13 +39,8 @@ fn brkem_enters_the_8080_mode() {
         assert!(machine.state.may_write_mode);
     }
     // prefixes stand before it as before any native instruction
-    let machine = with_vectors(bench(&[0x2E, 0xF3, 0x0F, 0xFF, 0x40])).with_cards();
+    let machine = with_vectors(bench(&[0x2E, 0xF3, 0x0F, 0xFF, 0x40]));
     assert_eq!(saved(&machine.done(), 0x1FA)[0], 5);
-}
-
-#[test]
-fn without_the_cards_brkem_is_unknown() {
-    assert_eq!(with_vectors(bench(&BRKEM)).refused(), 3);
 }
 
 #[test]
@@ -80,7 +75,6 @@ fn a_popped_psw_writes_the_mode_only_under_the_permission() {
     for (code, psw_above) in [(&RETI[..], 4), (&POP_PSW[..], 0)] {
         for word in [0x0000, 0xFFFF, 0x7FFF, 0x8000] {
             let mut machine = bench(code)
-                .with_cards()
                 .with(SP, 0x200)
                 .words(STACK + 0x200 + psw_above, &[word]);
             let flags = word & 0x0FD5;
@@ -98,7 +92,6 @@ fn a_popped_psw_writes_the_mode_only_under_the_permission() {
 fn a_round_through_both_modes() {
     // native: BRKEM 40h at 2000:0000; 8080 at 1000:0000: MVI A,5; CALLN 41h; INR A; RETEM; native at 1100:0000: RETI
     let mut machine = bench(&BRKEM)
-        .with_cards()
         .with(SP, 0x200)
         .words(0x100, &[0, 0x1000, 0, 0x1100])
         .bytes(0x10000, &[0x3E, 0x05, 0xED, 0xED, 0x41, 0x3C, 0xED, 0xFD])
@@ -115,7 +108,6 @@ fn a_round_through_both_modes() {
 fn an_inner_retem_takes_the_permission_too() {
     // BRKEM, CALLN, BRKEM, RETEM, then RETI: the saved mode of CALLN is not written any more
     let mut machine = bench(&BRKEM)
-        .with_cards()
         .with(SP, 0x200)
         .words(0x100, &[0, 0x1000, 0, 0x1100, 0, 0x1200])
         .bytes(0x10000, &[0xED, 0xED, 0x41])
@@ -181,7 +173,7 @@ fn the_single_step_trap_follows_changes_of_the_mode() {
         } else {
             card(&code)
         };
-        let mut machine = with_vectors(machine.with_cards()).flags(BRK);
+        let mut machine = with_vectors(machine).flags(BRK);
         assert_eq!(machine.step(), Ok(10));
         assert_eq!(place(&machine), (0x0ABC, 0x0DEF));
         assert_eq!(saved(&machine, 0x1F4), [0x5678, 0x1234, psw]);
@@ -197,7 +189,7 @@ fn the_single_step_trap_follows_changes_of_the_mode() {
 #[test]
 fn number_2_reads_the_mode_by_the_permission() {
     for code in [&[0x00][..], &[0x90]] {
-        let mut machine = bench(code).with_cards();
+        let mut machine = bench(code);
         machine.state.psw &= !MODE;
         assert_eq!(machine.clone().refused(), 2);
         machine.state.may_write_mode = true;
