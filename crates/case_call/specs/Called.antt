@@ -10,9 +10,9 @@ use Rattle.sheet.specs.declared.Entry.{Entry}
 use Rattle.sheet.specs.Width.{pick}
 use Rattle.sheet.specs.Handler.{nothing}
 use Rattle.sheet.specs.Step as definition
-use Rattle.step_calls.specs.Calls.{Interrupts}
-use Rattle.engine.specs.Steps.{Steps}
-use Rattle.engine.specs.Runs.{Runs}
+use Rattle.step_answer.specs.Calls.{Interrupts}
+use Rattle.step_answer.specs.Steps.{Steps}
+use Rattle.step_answer.specs.Runs.{Runs}
 use Rattle.log_reader.specs.Answer.{Answers}
 use Rattle.case_bytes.specs.Buffers.{sumOf, patched}
 use Rattle.case_form.specs.declared.Case.{Case}

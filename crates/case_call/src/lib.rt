@@ -1,11 +1,12 @@
 // What a case asks for: its buffers laid out, its call made, and the bytes of the result.
+pub mod stream;
+
 use case_form::Case;
 use sheet::Bus;
 use sheet::GapRule;
 use sheet::State;
 ghost use mathlib.Core.Path.{_≡_};
-ghost use Rattle.step_calls.specs.Lent.{InterruptsOn};
-ghost use Rattle.engine.specs.Lent.{StepsOn, RunsOn};
+ghost use Rattle.step_answer.specs.Lent.{StepsOn, RunsOn, InterruptsOn};
 ghost use Rattle.case_call.specs.Called.{stepsOf, resetAs, bytesOf, laid, Reading};
 ghost use Rattle.case_call.specs.Lent.{CalledOn, ResultOn};
 

@@ -1,4 +1,4 @@
 // Answers the case stream on standard input. In the gate: a case for each of the five calls, then one that is cut off.
 fn main() {
-    case_run::run();
+    case_call::stream::run();
 }

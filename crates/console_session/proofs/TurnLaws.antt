@@ -9,8 +9,8 @@ use Rattle.sheet.specs.declared.Bus.{Bus}
 use Rattle.sheet.specs.declared.State.{State}
 use Rattle.sheet.specs.World.{world}
 use Rattle.sheet.specs.Run.{runs, runReported, ranReport}
-use Rattle.step_calls.specs.Calls.{Interrupts}
-use Rattle.engine.specs.Runs.{Runs}
+use Rattle.step_answer.specs.Calls.{Interrupts}
+use Rattle.step_answer.specs.Runs.{Runs}
 use Rattle.console_turns.specs.declared.Session.{Session}
 use Rattle.console_turns.specs.declared.Next.{Next}
 use Rattle.console_turns.specs.declared.Plan.{Plan}

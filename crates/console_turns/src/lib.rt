@@ -1,13 +1,13 @@
 // What the turns of a session are made of, apart from the calls on the machine: the stand, the next call of the schedule, the
 // steps of a run, and the stand after a call or a run.
-use engine::Ran;
 use mach_registers::PC;
 use mach_registers::PS;
 use sheet::Progress;
 use sheet::State;
 use std::num::wrapping_add_u64;
 use std::num::wrapping_add_usize;
-use step_calls::Answer;
+use step_answer::Answer;
+use step_answer::Ran;
 ghost use mathlib.Core.Path.{_≡_};
 ghost use Prim.Native.Nat.{_-_, _<_, min};
 ghost use Rattle.sheet.specs.Width.{pick};

@@ -27,22 +27,18 @@ use Rattle.code_answer.specs.Answer.{Decodes}
 use Rattle.code_answer.proofs.DecodesLaws.{known-reads, unknown-refuses}
 use Rattle.mach_tally.specs.Sums.{Free}
 use Rattle.mach_tally.proofs.Bounds.{within-none}
-use Rattle.step_calls.specs.Calls.{checkNumber}
-use Rattle.step_calls.proofs.Laws.{passed, checked-passed, checked-refused}
-use Rattle.step_one.specs.Proceeds.{Proceeds}
-use Rattle.step_calls.specs.declared.Answer.{Answer}
-use Rattle.step_one.specs.declared.Stepped.{Stepped}
-use Rattle.engine.specs.declared.Advanced.{Advanced}
-use Rattle.engine.specs.Steps.{refusedAt, advancedBy, answerOf, Carries, Advances, Moves, Steps, NextIn}
+use Rattle.step_answer.specs.Calls.{checkNumber}
+use Rattle.step_answer.proofs.CheckLaws.{passed, checked-passed, checked-refused, awake-known}
+use Rattle.engine.specs.Proceeds.{Proceeds}
+use Rattle.step_answer.specs.declared.Answer.{Answer}
+use Rattle.step_answer.specs.declared.Advanced.{Advanced}
+use Rattle.step_answer.specs.Steps.{refusedAt, answerOf, Advances, Moves, Steps}
+use Rattle.engine.specs.declared.one.Stepped.{Stepped}
+use Rattle.engine.specs.Carried.{advancedBy, Carries, NextIn}
 
 -- the table of a mode
 abbrev readingIn : Bool → Reading Instr
 readingIn native = pick native instruction cardInstruction
-
--- what a machine that is not halted comes to, by what stands at PS:PC
-pub awake-known : (w : World) (i : Instr) (n : ℕ) → w .state .marks .halted ≡ false → instructionIn w ≡ known i n → awake kept w ≡ runBy kept (stepping i n) (starting i w)
-unfolding awake decoded
-awake-known w i n h e = rw (e, h)
 
 awake-unknown : (w : World) (k : ℕ) → w .state .marks .halted ≡ false → Refuses Instr (readingIn (nativeOf (pswOf (w .state)))) (source w) 0 k → seen (awake kept w) ≡ stops k
 unfolding instructionIn awake decoded

@@ -1,37 +1,26 @@
 // The public calls step and run, and what both are once the checks that every call makes are passed.
+pub mod one;
+
 use code_answer::Decoded;
 use mach_registers::PC;
 use mach_registers::PS;
 use mach_registers::PSW;
+use one::Stepped;
 use sheet::Bus;
 use sheet::Instr;
 use sheet::Marks;
 use sheet::Progress;
 use sheet::State;
-use step_calls::Answer;
-use step_one::Stepped;
+use step_answer::Advanced;
+use step_answer::Answer;
+use step_answer::Ran;
 ghost use mathlib.Core.Path.{_≡_};
 ghost use Rattle.sheet.specs.World.{world, stateOf};
-ghost use Rattle.step_calls.specs.Calls.{checkNumber};
-ghost use Rattle.engine.specs.Steps.{refusedAt, advancedBy, answerOf, NextIn};
-ghost use Rattle.engine.specs.Lent.{CarriesOn, AdvancesOn, MovesOn, StepsOn, RunsOn};
-
-// What comes of a step: done, or the number of its refusal, after which nothing has changed; the marks, the places, the bus.
-pub struct Advanced {
-    pub done: bool,
-    pub number: u8,
-    pub marks: Marks,
-    pub progress: Progress,
-    pub bus: Bus,
-}
-
-// What a run answers: the number of the refusal that ended it or 0, the state, the steps done and their bus.
-pub struct Ran {
-    pub number: u8,
-    pub state: State,
-    pub steps: u16,
-    pub bus: Bus,
-}
+ghost use Rattle.step_answer.specs.Calls.{checkNumber};
+ghost use Rattle.step_answer.specs.Steps.{refusedAt, answerOf};
+ghost use Rattle.step_answer.specs.Lent.{AdvancesOn, MovesOn, StepsOn, RunsOn};
+ghost use Rattle.engine.specs.Carried.{advancedBy, NextIn};
+ghost use Rattle.engine.specs.Lent.{CarriesOn};
 
 // A refused step.
 fn refuse(marks: Marks, q: Progress, number: u8) -> Advanced
@@ -75,7 +64,7 @@ fn carry_out(
 ) -> Advanced
     ensures { λ r. ⌜ CarriesOn i size file ram rom tape log marks q r ⌝ }
 {
-    shown(step_one::proceed(file, ram, rom, tape, log, marks, q, i, size))
+    shown(one::proceed(file, ram, rom, tape, log, marks, q, i, size))
 }
 
 // The instruction at PS:PC in the mode in force.

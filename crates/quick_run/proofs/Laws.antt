@@ -14,15 +14,15 @@ use Rattle.sheet.specs.declared.State.{State}
 use Rattle.sheet.specs.World.{World, world, stateOf}
 use Rattle.mach_tally.specs.Sums.{Free, Joins}
 use Rattle.mach_tally.specs.Bounds.{Within}
-use Rattle.step_calls.specs.Calls.{checkNumber}
-use Rattle.engine.specs.Steps.{Advances}
-use Rattle.engine.specs.Runs.{Runs}
-use Rattle.engine.proofs.RunLaws.{Continues, continues-none, continues-more, runs-stop, runs-end}
+use Rattle.step_answer.specs.Calls.{checkNumber}
+use Rattle.step_answer.specs.Steps.{Advances}
+use Rattle.step_answer.specs.Runs.{Runs}
+use Rattle.step_answer.proofs.RunLaws.{Continues, continues-none, continues-more, runs-stop, runs-end}
 use Rattle.quick_tally.specs.Packed.{busAt}
 use Rattle.quick_reading.specs.Readings.{general, Remembers}
 use Rattle.quick_stand.specs.Stand.{progressAt, marksAt, Holds}
 use Rattle.quick_port.specs.Reached.{numberOf, costOf}
-use Rattle.quick_step.specs.Turns.{Turns}
+use Rattle.quick_run.specs.Turns.{Turns}
 
 -- ---- nothing is remembered at first
 

@@ -1,10 +1,13 @@
 // A run that reads an instruction once and uses the reading again.
-use engine::Ran;
+mod step;
+pub mod taken;
+
 use sheet::State;
+use step_answer::Ran;
 ghost use mathlib.Core.Path.{_≡_};
 ghost use Rattle.sheet.specs.World.{world, stateOf};
-ghost use Rattle.step_calls.specs.Calls.{checkNumber};
-ghost use Rattle.engine.specs.Lent.{RunsOn};
+ghost use Rattle.step_answer.specs.Calls.{checkNumber};
+ghost use Rattle.step_answer.specs.Lent.{RunsOn};
 ghost use Rattle.quick_reading.specs.Readings.{Remembers};
 ghost use Rattle.quick_stand.specs.Stand.{progressAt, marksAt, Lent};
 
@@ -40,7 +43,8 @@ fn go_on(s: State, ram: &mut [u8], rom: &[u8], tape: &[u8], log: &mut [u8], budg
     let mut steps: u16 = 0;
     let mut total = quick_tally::none();
     while steps < budget {
-        let x = quick_step::turn(&mut file, &mut stand, &mut memo, ram, rom, tape, log);
+        let r = step::next(&file, &stand, &mut memo, ram, rom);
+        let x = step::turn(&mut file, &mut stand, ram, rom, tape, log, r);
         if x < 256 {
             let state = state_of(file, &stand);
             let bus = quick_tally::bus(total);

@@ -10,6 +10,8 @@ use Rattle.sheet.specs.declared.Marks.{Marks}
 use Rattle.sheet.specs.declared.Progress.{Progress}
 use Rattle.sheet.specs.Width.{pick, odd}
 use Rattle.sheet.specs.World.{marksOf, progressOf}
+use Rattle.sheet.specs.Log.{rule, risen}
+use Rattle.step_end.specs.Finishes.{begunAt}
 use Rattle.quick_stand.specs.Stand.{progressAt, marksAt, Lent, Holds}
 
 pub progress-is : (p : List ℕ) (q : Progress) → q ≡ progressOf (getD p 0 0) (getD p 1 0) (getD p 2 0) → q ≡ progressAt p
@@ -63,3 +65,9 @@ counted (w ∷ x ∷ []) p′ c h k q = absurd (let l = h .long in omega arith)
 counted (w ∷ x ∷ y ∷ []) p′ c h k q = absurd (let l = h .long in omega arith)
 counted (w ∷ x ∷ y ∷ z ∷ []) p′ c h k q = rw q (record { marks = refl; progress = refl; lent = record { long = refl; small = k } })
 counted (w ∷ x ∷ y ∷ z ∷ u ∷ p) p′ c h k q = absurd (let l = h .long in omega arith)
+
+-- ---- a step by a reading: the count and the marks
+
+pub begins : (p p′ : List ℕ) (c : ℕ) → Lent p → c ≡ risen rule (getD p 2 0) → c ≤ 4294967295 → p′ ≡ set (set p 2 c) 3 0 → Holds p′ (marksOf false false false) (begunAt (progressAt p))
+unfolding progressAt
+begins p p′ c h e k q = rw (← e) (counted p p′ c h k q)

@@ -3,7 +3,10 @@ use sheet::Marks;
 use sheet::Progress;
 ghost use mathlib.Core.Path.{_≡_};
 ghost use Prim.Native.Nat.{_≤_};
+ghost use mathlib.Core.Bool.{false};
 ghost use Rattle.sheet.specs.Width.{pick};
+ghost use Rattle.sheet.specs.World.{marksOf};
+ghost use Rattle.step_end.specs.Finishes.{begunAt};
 ghost use Rattle.quick_stand.specs.Stand.{progressAt, marksAt, Lent, Holds};
 
 pub fn progress(stand: &[usize; 4]) -> Progress
@@ -58,4 +61,14 @@ pub fn of(m: Marks, q: Progress) -> [usize; 4]
     let mut stand = nowhere();
     keep(&mut stand, m, q);
     stand
+}
+
+// The count rises; no reading loads a segment register or halts.
+pub fn begin(stand: &mut [usize; 4])
+    requires { ⌜ Lent (now stand) ⌝ }
+    ensures { λ _. ⌜ Holds (now (stand .exit)) (marksOf false false false) (begunAt (progressAt (now (stand .entry)))) ⌝ }
+{
+    let count = step_end::count_on(stand[2] as u32);
+    stand[2] = count as usize;
+    stand[3] = 0;
 }

@@ -21,7 +21,8 @@ use Rattle.sheet.specs.Step.{pswGood, placesGood, marksGood, fits, sound, check
 use Rattle.sheet.specs.Contract.{seen, exec, OnMemory, report, reportOf}
 use Rattle.sheet.proofs.Rules.{seq-last, ends-halted}
 use Rattle.mach_tally.specs.Sums.{Free}
-use Rattle.step_calls.specs.Calls.{checkNumber, heldNumber, Accepts, Interrupts}
+use Rattle.step_answer.specs.Calls.{checkNumber, heldNumber, Accepts, Interrupts}
+use Rattle.step_answer.proofs.CheckLaws.{passed, checked-passed, checked-refused}
 
 -- the count's type holds it within the ceiling
 pub count-good : (s : State) (tape log : List ℕ) → s .progress .count ≤ ceiling rule → (leb (s .progress .tape) (length tape) && leb (s .progress .log) (length log)) ≡ placesGood s tape log
@@ -56,29 +57,6 @@ pub accepts : (v : ℕ) (s : State) (m : Marks) (g ram ram′ rom : List ℕ) (n
     → Accepts v s ram rom 0 (record { file = g; marks = m; progress = s .progress }) ram′ n
 unfolding interrupting
 accepts v s m g ram ram′ rom n e h = rw e (record { zero = refl; most = h .most; at = λ tape log. seq-last _ (h .at s tape log) (ends-halted false) })
-
--- ---- what every call comes to, by the number of the checks that it makes first
-
--- both are passed where it is 0
-pub passed : (w : World) → checkNumber w ≡ 0 → (fits w ≡ true) × (sound w ≡ true)
-passed w e = go (fits w) (sound w) refl refl
-  where
-    go : (f g : Bool) → fits w ≡ f → sound w ≡ g → (fits w ≡ true) × (sound w ≡ true)
-    go true true a b = (a, b)
-    go true false a b = absurd (let z : _≡_ {A = ℕ} 2 0 = rw (a, b) at e in omega arith)
-    go false g a b = absurd (let z : _≡_ {A = ℕ} 1 0 = rw a at e in omega arith)
-
-module _ {A : Type 0} (w : World) (refuses : ℕ → A) (then : A) where
-  pub checked-passed : (fits w ≡ true) × (sound w ≡ true) → checked w refuses then ≡ then
-  checked-passed (f, g) = rw (f, g)
-
-  pub checked-refused : (number : ℕ) → number ≡ checkNumber w → (number ≡ 0 → ⊥) → checked w refuses then ≡ refuses number
-  checked-refused number e z = go (fits w) (sound w) e
-    where
-      go : (f g : Bool) → number ≡ pick f (pick g 0 2) 1 → pick f (pick g then (refuses 2)) (refuses 1) ≡ refuses number
-      go true true q = absurd (z q)
-      go true false q = ap refuses (sym q)
-      go false g q = ap refuses (sym q)
 
 -- ---- what holds an interrupt off
 

@@ -3,18 +3,12 @@ use mach_registers::PSW;
 use sheet::Bus;
 use sheet::Progress;
 use sheet::State;
+use step_answer::Answer;
 ghost use mathlib.Core.Path.{_≡_};
 ghost use Rattle.sheet.specs.World.{world};
 ghost use Rattle.sheet.specs.Step as definition;
-ghost use Rattle.step_calls.specs.Calls.{checkNumber, heldNumber};
-ghost use Rattle.step_calls.specs.Lent.{AcceptsOn, InterruptsOn};
-
-// What a call answers: the number, the state and the bus.
-pub struct Answer {
-    pub number: u8,
-    pub state: State,
-    pub bus: Bus,
-}
+ghost use Rattle.step_answer.specs.Calls.{checkNumber, heldNumber};
+ghost use Rattle.step_answer.specs.Lent.{AcceptsOn, InterruptsOn};
 
 // The machine as it is when power comes on.
 pub fn reset() -> State

@@ -42,8 +42,8 @@ use Rattle.sheet.proofs.PswLaws.{flag-settled}
 use Rattle.sheet.proofs.Rules.{seq-last, ends-pure, seq-registers, seq-set, seq-flag}
 use Rattle.sheet.proofs.BlockLaws.{no-prefix, Begins, scan-prefixes, native-read}
 use Rattle.calc_decimal.proofs.DecimalLaws.{packed, decimal-borrow}
-use Rattle.engine.specs.Steps.{Steps}
-use Rattle.engine.proofs.RunLaws.{as-done}
+use Rattle.step_answer.specs.Steps.{Steps}
+use Rattle.step_answer.proofs.RunLaws.{as-done}
 use Rattle.theorems.specs.Repeat.{reg}
 use Rattle.theorems.proofs.BoundsStep.{step-is}
 use Rattle.theorems.proofs.PortOnce.{begun, other-register}

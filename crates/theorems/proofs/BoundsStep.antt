@@ -29,8 +29,8 @@ use Rattle.sheet.specs.Traps.{push, pushPsw, pushPsPc, jumpFar, save, vectored,
 use Rattle.theorems.specs.Repeat.{ofMemory}
 use Rattle.theorems.specs.Bounds.{Bytes, stepTop, interruptTop, stepRefusals, interruptRefusals, Among, first, later, Comes, ends-in, stops-by}
 use Rattle.log_record.proofs.Picked.{picked}
-use Rattle.engine.proofs.Laws.{awake-known}
-use Rattle.engine.proofs.RunLaws.{step-on}
+use Rattle.step_answer.proofs.CheckLaws.{awake-known}
+use Rattle.step_answer.proofs.RunLaws.{step-on}
 use Rattle.theorems.proofs.Widths.{byte-top}
 use Rattle.theorems.proofs.BoundsRules.{Within, within, cycles, short-of, traits, Bound, Most, seq, any, up, of-pure, of-registers, of-set, of-flag, of-halted}
 use Rattle.theorems.proofs.BoundsOperands.{of-trap}

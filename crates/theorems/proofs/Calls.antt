@@ -11,7 +11,7 @@ use Rattle.sheet.specs.Handler.{nothing}
 use Rattle.sheet.specs.Contract.{Seen, stops, ends, seen, Report, report, reportOf}
 use Rattle.sheet.specs.Step.{step, stepReport, interrupt, interruptReport}
 use Rattle.theorems.specs.Bounds.{Bytes, stepTop, interruptTop, stepRefusals, interruptRefusals, Among, first, later, Comes, ends-in, stops-by}
-use Rattle.engine.proofs.RunLaws.{Done, as-done}
+use Rattle.step_answer.proofs.RunLaws.{Done, as-done}
 use Rattle.theorems.proofs.BoundsStep.{step-comes, interrupt-comes}
 
 -- ---- one report

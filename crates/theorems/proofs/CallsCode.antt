@@ -13,9 +13,9 @@ use Rattle.sheet.specs.Step.{reset}
 use Rattle.sheet.specs.Run.{RunReport, runReported}
 use Rattle.sheet.specs.declared.GapRule.{GapRule}
 use Rattle.log_reader.specs.Answer.{Answers}
-use Rattle.step_calls.specs.Calls.{Interrupts}
-use Rattle.engine.specs.Steps.{Steps}
-use Rattle.engine.specs.Runs.{Runs}
+use Rattle.step_answer.specs.Calls.{Interrupts}
+use Rattle.step_answer.specs.Steps.{Steps}
+use Rattle.step_answer.specs.Runs.{Runs}
 use Rattle.theorems.specs.StandIns.{subtracting, subtracted, asleep}
 use Rattle.theorems.proofs.Calls.{report-once, step-hands-back, interrupt-hands-back}
 use Rattle.theorems.proofs.CallsStandIns.{asleep-refused}

@@ -13,7 +13,7 @@ use Rattle.sheet.specs.Contract.{seen, report, reportOf}
 use Rattle.sheet.specs.Step.{loadsSegment, stepBy, step, interruptBy, interrupt, interruptReport}
 use Rattle.sheet.proofs.StepLaws.{Stepped, begins, step-leaves}
 use Rattle.sheet.proofs.MarkLaws.{step-marks, step-unmixed, held-off}
-use Rattle.engine.proofs.RunLaws.{sound-so, fits-so}
+use Rattle.step_answer.proofs.RunLaws.{sound-so, fits-so}
 
 -- a finished step, and the instruction that it did
 module _ (w v : World) (t : List Event) (n : length (w .state .file) ≡ 14) (e : step w ≡ done tt v t) where

@@ -38,7 +38,6 @@ pub mod BoundsDropped
 pub mod Calls
 pub mod CallsStandIns
 pub mod CallsCode
-pub mod CallsTaken
 pub mod Runs
 pub mod RunsStandIns
 pub mod RunsCode

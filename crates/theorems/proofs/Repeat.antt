@@ -23,7 +23,7 @@ use Rattle.sheet.specs.Step.{fits, sound, refusal, codeAt, source, awake, stepB
 use Rattle.sheet.proofs.ReadingLaws.{scan-rests}
 use Rattle.sheet.proofs.Lent.{Lent, Sound, Good, lent-refl}
 use Rattle.sheet.proofs.StepLaws.{sound-is, step-leaves, interrupt-leaves}
-use Rattle.engine.proofs.RunLaws.{sound-so, fits-so}
+use Rattle.step_answer.proofs.RunLaws.{sound-so, fits-so}
 use Rattle.theorems.proofs.BoundsStep.{step-is}
 use Rattle.theorems.specs.Repeat.{Block, ends, single, singles, elements, reg, Kept, own-byte, source-byte, target-byte, past, placed, Engine, Call, stepped, interrupted, Calls, no-call, and-then, Gap, quiet, service, Own, begun, next-own, Answered, shown, Taken, After, Claimed, Demand3}
 use Rattle.theorems.specs.RepeatEngines.{accesses, Tells, accepts, refuses, engine, definition}

@@ -14,7 +14,7 @@ use Rattle.sheet.specs.Run.{FinishedStep, begunIn, Ran, ran, more, onward, step
 use Rattle.sheet.proofs.Rules.{no-first, ⊕-assoc}
 use Rattle.theorems.specs.Runs.{Walk, none, step-then, RunOf, unfit, unsound, spent, stopped, after}
 use Rattle.sheet.proofs.MarkLaws.{step-unmixed}
-use Rattle.engine.proofs.RunLaws.{sound-so, fits-so, runs-on}
+use Rattle.step_answer.proofs.RunLaws.{sound-so, fits-so, runs-on}
 use Rattle.sheet.proofs.StepLaws.{step-leaves}
 
 -- ---- a run is its single steps

@@ -13,14 +13,14 @@ use Rattle.sheet.specs.Handler.{Event, refused, _⊕_}
 use Rattle.sheet.specs.Contract.{seen, report}
 use Rattle.sheet.specs.Step.{fits, sound, step, stepReport}
 use Rattle.sheet.specs.Run.{FinishedStep, begunIn, Ran, ran, runs, tallyAll, runReported, ranReport}
-use Rattle.engine.specs.Steps.{Steps}
-use Rattle.engine.specs.Runs.{Runs}
+use Rattle.step_answer.specs.Steps.{Steps}
+use Rattle.step_answer.specs.Runs.{Runs}
 use Rattle.theorems.specs.Bounds.{Bytes}
 use Rattle.theorems.specs.Runs.{Walk, none, step-then, spent, stopped}
 use Rattle.theorems.specs.RunsCode.{StepsCalled, no-call, call-then}
 use Rattle.theorems.proofs.Calls.{stops-at, step-done}
 use Rattle.theorems.proofs.Runs.{walk-long, run-only, stopped-keeps, run-splits-report}
-use Rattle.engine.proofs.RunLaws.{as-refused}
+use Rattle.step_answer.proofs.RunLaws.{as-refused}
 
 -- ---- calls of step are steps
 

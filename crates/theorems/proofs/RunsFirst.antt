@@ -10,8 +10,8 @@ use Rattle.sheet.specs.Handler.{nothing}
 use Rattle.sheet.specs.Contract.{Seen, stops, seen}
 use Rattle.sheet.specs.Step.{step, stepReport}
 use Rattle.sheet.specs.Run.{ran, runs, tallyAll}
-use Rattle.engine.specs.Steps.{Steps}
-use Rattle.engine.specs.Runs.{Runs}
+use Rattle.step_answer.specs.Steps.{Steps}
+use Rattle.step_answer.specs.Runs.{Runs}
 use Rattle.theorems.specs.Bounds.{Bytes}
 use Rattle.theorems.specs.Runs as outcome
 use Rattle.theorems.specs.Outcomes.{StepOf, too-large, unsound, asleep, fourth-prefix, no-instruction, short-tape, full-log, finished}

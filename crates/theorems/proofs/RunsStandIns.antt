@@ -12,7 +12,7 @@ use Rattle.sheet.specs.Handler.{refused, nothing}
 use Rattle.sheet.specs.Step.{fits, sound, awake, stepBy, step}
 use Rattle.sheet.specs.Run.{runs, tallyAll, RunReport, runReported, ranReport}
 use Rattle.sheet.proofs.SmallTable.{small-table}
-use Rattle.engine.proofs.RunLaws.{Done}
+use Rattle.step_answer.proofs.RunLaws.{Done}
 use Rattle.theorems.specs.Runs.{none, step-then, spent, stopped}
 use Rattle.sheet.specs.Lendable.{lendable}
 use Rattle.mach_tally.specs.Sums.{cyclesOnly}

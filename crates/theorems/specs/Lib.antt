@@ -10,4 +10,3 @@ pub mod Access
 pub mod Outcomes
 pub mod Modes
 pub mod LogCode
-pub mod Lent

@@ -12,7 +12,7 @@ use Rattle.sheet.specs.World.{World, world}
 use Rattle.sheet.specs.Run.{FinishedStep}
 use Rattle.log_record.specs.Whole.{Row}
 use Rattle.log_reader.specs.Answer.{Answers}
-use Rattle.engine.specs.Runs.{Runs}
+use Rattle.step_answer.specs.Runs.{Runs}
 use Rattle.sheet.specs.Lendable.{lendable}
 use Rattle.theorems.specs.RepeatCode.{StepCall, InterruptCall}
 use Rattle.theorems.specs.Rows.{stepsFrom, worldAfter}

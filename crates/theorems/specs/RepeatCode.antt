@@ -6,8 +6,8 @@ use Rattle.sheet.specs.declared.Bus.{Bus}
 use Rattle.sheet.specs.declared.State.{State}
 use Rattle.sheet.specs.World.{World, world}
 use Rattle.sheet.specs.Handler.{Event, happened, nothing, _⊕_, tally}
-use Rattle.step_calls.specs.Calls.{Interrupts}
-use Rattle.engine.specs.Steps.{Steps}
+use Rattle.step_answer.specs.Calls.{Interrupts}
+use Rattle.step_answer.specs.Steps.{Steps}
 use Rattle.theorems.specs.Repeat.{Block, single, singles, Engine}
 
 -- `engine::step` was called in w and answered, as its contract has it

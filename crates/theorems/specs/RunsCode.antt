@@ -4,7 +4,7 @@ use mathlib.Core.List.{List}
 use Rattle.sheet.specs.declared.Bus.{Bus}
 use Rattle.sheet.specs.declared.State.{State}
 use Rattle.sheet.specs.Handler.{nothing, _⊕_}
-use Rattle.engine.specs.Steps.{Steps}
+use Rattle.step_answer.specs.Steps.{Steps}
 use Rattle.theorems.specs.Bounds.{Bytes}
 
 -- k calls that each answer 0: from a state, a RAM of bytes and a log to others, with the sum of what they return as their bus

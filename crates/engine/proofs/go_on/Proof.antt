@@ -5,7 +5,7 @@ use Prim.Native.Nat.{_≤_, _-_}
 use mathlib.Core.Path.{_≡_}
 use lib.ListN.{length}
 use Rattle.sheet.specs.World.{world, stateOf}
-use Rattle.engine.proofs.RunLaws.{Continues, continues-none, continues-more, runs-stop, runs-end}
+use Rattle.step_answer.proofs.RunLaws.{Continues, continues-none, continues-more, runs-stop, runs-end}
 use Rattle.engine.proofs.go_on.Statement.{statement}
 use Rattle.engine.proofs.go_on.Tie as tie
 

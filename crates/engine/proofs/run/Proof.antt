@@ -1,5 +1,5 @@
 use borrow.Author.Needs.{needs}
-use Rattle.engine.proofs.RunLaws.{runs-refused}
+use Rattle.step_answer.proofs.RunLaws.{runs-refused}
 use Rattle.engine.proofs.run.Statement.{statement}
 use Rattle.engine.proofs.run.Tie as tie
 

@@ -1,4 +1,4 @@
-use Rattle.engine.proofs.RunLaws.{runs-refused}
+use Rattle.step_answer.proofs.RunLaws.{runs-refused}
 use borrow.Author.Needs.{needs}
 use Rattle.quick_run.proofs.run.Statement.{statement}
 use Rattle.quick_run.proofs.run.Tie as tie

@@ -1,2 +1,0 @@
-pub mod Proceeds
-pub mod Lent
