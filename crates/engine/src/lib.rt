@@ -6,7 +6,6 @@ use mach_registers::PC;
 use mach_registers::PS;
 use mach_registers::PSW;
 use one::Stepped;
-use sheet::Bus;
 use sheet::Instr;
 use sheet::Marks;
 use sheet::Progress;

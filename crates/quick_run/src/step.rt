@@ -3,7 +3,7 @@ use mach_registers::PC;
 use mach_registers::PS;
 use mach_registers::PSW;
 ghost use mathlib.Core.Path.{_≡_};
-ghost use mathlib.Core.Bool.{true, false};
+ghost use mathlib.Core.Bool.{true};
 ghost use Rattle.quick_pack.specs.Readings.{atPort};
 ghost use Rattle.quick_reading.specs.Readings.{Remembers};
 ghost use Rattle.quick_stand.specs.Stand.{Lent};

@@ -1,6 +1,5 @@
 // What every public call checks first, and the calls that read no instruction: reset and interrupt.
 use mach_registers::PSW;
-use sheet::Bus;
 use sheet::Progress;
 use sheet::State;
 use step_answer::Answer;
