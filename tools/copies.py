@@ -7,18 +7,19 @@ import os
 import re
 import shutil
 
-from pieces import functions, place, read, replacements
+from pieces import BadEdit, around, functions, place, read, replacements
 
 
 def home(root, edit):
-    """the file and the function in whose body the whole edit is, or None; a function in a cycle of calls has no proof of its own"""
+    """the file and the function in whose body the whole edit is, or None; a function in a cycle of calls has no proof of its own, and one
+    in a comment or a module inside the file would stand elsewhere as a copy"""
     homes = set()
     for file, old, _ in replacements(edit):
         text, at = place(root, file, old)
-        known = functions(text) if file.startswith('src/') else []
-        homes.add(next(((file, function) for function, _, opens, ends in known if opens <= at < at + len(old) < ends), None))
-    found = homes.pop() if len(homes) == 1 else None
-    return found if found and not in_cycle(root, *found) else None
+        plain = file.startswith('src/') and not re.search(r'/\*|^ *(pub )?mod \w+ \{', text, re.M)
+        homes.add((file, around(text, at, old) if plain else None))
+    file, function = homes.pop() if len(homes) == 1 else (None, None)
+    return (file, function) if function and not in_cycle(root, function) else None
 
 
 def module(file):
@@ -27,9 +28,9 @@ def module(file):
     return steps[:-1] if steps[-1] in ('lib', 'mod') else steps
 
 
-def in_cycle(root, file, function):
-    folder = '/'.join([root, 'proofs', *module(file)])
-    return os.path.isdir(folder) and any(function in name.split('+')[1:] for name in os.listdir(folder) if name.startswith('+'))
+def in_cycle(root, function):
+    """whether the name of a folder has the function in it, as +even+odd has, or +one_module-even+other_module-odd"""
+    return any(function in re.findall(r'\w+', name) for _, names, _ in os.walk(f'{root}/proofs') for name in names if name.startswith('+'))
 
 
 def add(root, file, function, name, edit=None):
@@ -38,6 +39,8 @@ def add(root, file, function, name, edit=None):
     begins, ends = next((begins, ends) for known, begins, _, ends in functions(text) if known == function)
     copy = text[begins:ends]
     for _, old, new in replacements(edit) if edit else []:
+        if copy.count(old) != 1:
+            raise BadEdit(f"an 'old:' text stands not once in {file}")
         copy = copy.replace(old, new)
     with open(f'{root}/{file}', 'a', encoding='utf8') as out:
         out.write('\n' + re.sub(rf'fn {function}\b', f'fn {name}', copy, count=1) + '\n')

@@ -2,7 +2,7 @@
 
 A crate falls into pieces: each top-level function of src/ ('fn NAME'), what a file of src/ has outside of those ('src/lib.rt'), and each
 file of specs/ and proofs/. A piece rests on those that it names and on all that they rest on. Names are looked for in plain text, so that
-a piece may seem to rest on more than it does and never on less.
+a piece may seem to rest on more than it does. An edit also changes what its new text names and the old did not.
 """
 import os
 import re
@@ -24,12 +24,14 @@ def replacements(edit):
     for line in read(edit).split('\n'):
         if line.startswith('file: '):
             file = line[6:]
-        elif line.startswith('old: '):
+        elif line.startswith('old: ') and not old:
             old = line[5:]
-        elif line.startswith('new:'):
-            found.append((file, old, line[5:]))
+        elif line.startswith('new:') and old:
+            found.append((file, old, line[4:].removeprefix(' ')))
             old = ''
-    if not found:
+        elif line.startswith(('old:', 'new:')):
+            raise BadEdit("an 'old:' or 'new:' line has no partner")
+    if old or not found:
         raise BadEdit("it has no 'old:' and 'new:' pair")
     return found
 
@@ -49,11 +51,16 @@ def functions(text):
     not begin at the end of a line counts as outside of functions"""
     found = []
     for head in re.finditer(r'^(?:pub )?fn (\w+)', text, re.M):
-        opened = re.compile(r'^\{$|^.*\) .*\{$|^.*\) \{$', re.M).search(text, head.start())
+        opened = re.compile(r'^\{$|^.*\) .*\{$', re.M).search(text, head.start())
         closed = text.find('\n}', opened.start()) if opened else -1
         if closed >= 0 and not re.search(r'\n[\w#/\n]', text[head.start():opened.end()]):
             found.append((head.group(1), head.start(), opened.end(), closed + 2))
     return found
+
+
+def around(text, at, old):
+    """the function of a source text in whose body a part of it stands, or None"""
+    return next((function for function, _, opens, ends in functions(text) if opens <= at < at + len(old) < ends), None)
 
 
 def outside(text):
@@ -89,7 +96,7 @@ class Pieces:
     def add_files(self):
         for file, text in self.texts.items():
             if file in self.nodes:
-                self.direct[file] = set()
+                self.direct[file] = self.modules_in(text)
             elif file in self.sources:
                 self.direct[file] = set(self.sources) | self.nodes | self.modules_in(outside(text)) | self.called_in(outside(text))
             else:
@@ -104,15 +111,18 @@ class Pieces:
             if file.endswith('/Proof.antt'):
                 # the proof of one function, or of all in a cycle of calls: proofs/+even+odd/Proof.antt
                 for function in re.findall(r'\w+', file.split('/')[-2]):
-                    self.direct.setdefault(f'fn {function}', set()).add(file)
+                    self.direct.setdefault(f'fn {function}', set(self.sources)).add(file)
 
     def modules_in(self, text):
         """the pieces whose modules a text names: files of specs/ and proofs/, types of the code, functions"""
         found = set()
-        for part, path in re.findall(rf'Rattle·{self.name}·(specs|proofs)\.\1((?:\.[^\s.;,(){{}}]+)+)', text):
+        for part, path in re.findall(rf'Rattle·{self.name}·(specs|proofs)\b(?:\.\1\b)?((?:\.[^\s.;,(){{}}]+)*)', text):
             steps = path.split('.')[1:]
             files = (f"{part}/{'/'.join(steps[:n])}.antt" for n in range(1, len(steps) + 1))
             found.update(file for file in files if file in self.texts)
+            # by a name for a module that has others below it, each of those may be named
+            if not steps or f"{part}/{'/'.join(steps)}.antt" in self.nodes:
+                found.update(file for file in self.texts if file.startswith('/'.join([part, *steps, ''])))
             if part == 'proofs':
                 found.update(f'fn {function}' for step in steps for function in re.findall(r'\w+', step))
             if 'declared' in steps:
@@ -133,12 +143,15 @@ class Pieces:
         return seen
 
     def touched(self, edit):
-        """the pieces that an edit changes: of a source file the functions in whose bodies it is, else the file itself"""
+        """the pieces that an edit changes: of a source file the functions in whose bodies it is, else the file itself; and what they did
+        not rest on before"""
         found = set()
-        for file, old, _ in replacements(edit):
+        for file, old, new in replacements(edit):
             text, at = place(self.root, file, old)
-            known = functions(text) if file in self.sources else []
-            found.add(next((f'fn {function}' for function, _, opens, ends in known if opens <= at < at + len(old) < ends), file))
+            function = around(text, at, old) if file in self.sources else None
+            piece = f'fn {function}' if function else file
+            named = self.modules_in(new) | (self.called_in(new) if file in self.sources else set())
+            found |= {piece} | set().union(*map(self.reach, named)) - self.under.get(piece, set())
         return found
 
     def witnesses(self, mine, others):
@@ -152,7 +165,9 @@ class Pieces:
         return witnesses and 2 * len(places & witnesses) >= len(places)
 
     def told_apart(self, changes):
-        """for a list of what each edit changes: each edit's witnesses, or None where they are too few for one"""
+        """for a list of what each edit changes: each edit's witnesses, or None where they are too few for one, or two change one piece"""
+        if len(set().union(*changes)) < sum(map(len, changes)):
+            return None
         found = [self.witnesses(mine, set().union(*changes[:n], *changes[n + 1:])) for n, mine in enumerate(changes)]
         return found if all(self.likely(mine, witnesses) for mine, witnesses in zip(changes, found)) else None
 
