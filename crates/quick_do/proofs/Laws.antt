@@ -24,7 +24,7 @@ use Rattle.sheet.specs.Psw.{CY, flagOf}
 use Rattle.sheet.specs.Registers.{PSW, CW, BW, inDs0, fileOf, readReg, segment}
 use Rattle.sheet.specs.FirstByte.{operations, operationAt}
 use Rattle.sheet.specs.Operand.{form, forms, formAt, indexOf, formOffset, offsetOf, baseOf, locate, fetch, deposit, valueAt, sourceValue, setReg}
-use Rattle.sheet.specs.Act.{affect}
+use Rattle.sheet.specs.Act.{affect, pure}
 use Rattle.sheet.specs.Arithmetic.{Result, logical, unary, finish, operate, conclude, two, one, test}
 use Rattle.sheet.specs.Transfer.{mov}
 use Rattle.sheet.specs.Branch.{jump, branchIf, dbnz}
@@ -62,7 +62,7 @@ pub op-at : (r k : ℕ) (op : Operation) → opOf r ≡ k → op ≡ getD operat
 unfolding operationAt
 op-at r k op e h = rw e h
 
-op-below : (r : ℕ) → opOf r < 8
+pub op-below : (r : ℕ) → opOf r < 8
 op-below r = omega arith
 
 pub op-last : (r : ℕ) → (opOf r ≡ 0 → ⊥) → (opOf r ≡ 1 → ⊥) → (opOf r ≡ 2 → ⊥) → (opOf r ≡ 3 → ⊥) → (opOf r ≡ 4 → ⊥) → (opOf r ≡ 5 → ⊥) → (opOf r ≡ 6 → ⊥) → Cmp ≡ operationAt (opOf r)
@@ -151,12 +151,26 @@ base-is f r x e = go (eqb (rmOf r) 8)
 
 -- ---- operations
 
-pub concludes : (op o : Operation) (w : Bool) (s : Spot) (v : ℕ) (f g : List ℕ) → op ≡ o → OnFile Unit (conclude o w s v) f tt g → OnFile Unit (conclude op w s v) f tt g
-concludes op o w s v f g e h = rw e h
+-- what is kept of the operation with a number
+pub concludes-at : (k : ℕ) (w : Bool) (s : Spot) (v : ℕ) → k < 8 → conclude (operationAt k) w s v ≡ pick (eqb k 7) (pure tt) (deposit w s v)
+unfolding operationAt conclude
+concludes-at zero w s v h = refl
+concludes-at (suc zero) w s v h = refl
+concludes-at (suc (suc zero)) w s v h = refl
+concludes-at (suc (suc (suc zero))) w s v h = refl
+concludes-at (suc (suc (suc (suc zero)))) w s v h = refl
+concludes-at (suc (suc (suc (suc (suc zero))))) w s v h = refl
+concludes-at (suc (suc (suc (suc (suc (suc zero)))))) w s v h = refl
+concludes-at (suc (suc (suc (suc (suc (suc (suc zero))))))) w s v h = refl
+concludes-at (suc (suc (suc (suc (suc (suc (suc (suc k)))))))) w s v h = absurd (omega arith)
 
-pub drops-cmp : (op : Operation) (w : Bool) (s : Spot) (v : ℕ) (f : List ℕ) → op ≡ Cmp → OnFile Unit (conclude op w s v) f tt f
-unfolding conclude
-drops-cmp op w s v f e = rw e file-pure
+module _ (r : ℕ) (w : Bool) (n v : ℕ) (f g : List ℕ) where
+  pub drops-cmp : opOf r ≡ 7 → OnFile Unit (conclude (operationAt (opOf r)) w (InRegister n) v) f tt f
+  drops-cmp e = rw (concludes-at (opOf r) w (InRegister n) v (op-below r), eq-eqb (opOf r) 7 e) file-pure
+
+  pub keeps : (opOf r ≡ 7 → ⊥) → OnFile Unit (setReg w n v) f tt g → OnFile Unit (conclude (operationAt (opOf r)) w (InRegister n) v) f tt g
+  unfolding deposit
+  keeps z h = rw (concludes-at (opOf r) w (InRegister n) v (op-below r), ne-eqb (opOf r) 7 z) h
 
 -- with both operands at hand
 pub settles : (op : Operation) (w : Bool) (s : Spot) (a b : ℕ) (x : Flagged) (f g : List ℕ) → x ≡ flagged (operated op w a b (flagOf (getD f PSW 0) CY)) (getD f PSW 0)
@@ -167,9 +181,9 @@ settles op w s a b x f g e h =
     let z : OnFile Result (operate op w a b) f o f = record { at = λ s ram rom tape log. operate-ends op w a b _ } in
     file-seq _ z (file-seq _ (file-affect o f x e) (rw (value-is o f x e) at h))
 
-pub alu-to-is : (op : Operation) (w : Bool) (to a b : ℕ) (x : Flagged) (f g : List ℕ) → a ≡ readReg w (fileOf f) to → x ≡ flagged (operated op w a b (flagOf (getD f PSW 0) CY)) (getD f PSW 0)
-    → OnFile Unit (conclude op w (InRegister to) (x .value)) (set f PSW (x .psw)) tt g → OnFile Unit (settle op w (InRegister to) (readReg w (fileOf f) to) b) f tt g
-alu-to-is op w to a b x f g p e h = rw (← p) (settles op w (InRegister to) a b x f g e h)
+pub alu-to-is : (r : ℕ) (op : Operation) (w : Bool) (to a b : ℕ) (x : Flagged) (f g : List ℕ) → op ≡ operationAt (opOf r) → a ≡ readReg w (fileOf f) to → x ≡ flagged (operated op w a b (flagOf (getD f PSW 0) CY)) (getD f PSW 0)
+    → OnFile Unit (conclude (operationAt (opOf r)) w (InRegister to) (x .value)) (set f PSW (x .psw)) tt g → OnFile Unit (settle (operationAt (opOf r)) w (InRegister to) (readReg w (fileOf f) to) b) f tt g
+alu-to-is r op w to a b x f g k p e h = rw (← p) (settles (operationAt (opOf r)) w (InRegister to) a b x f g (rw k at e) h)
 
 two-is : (op : Operation) (w : Bool) (to from b : ℕ) (f g : List ℕ) → b ≡ readReg w (fileOf f) from
     → OnFile Unit (settle op w (InRegister to) (readReg w (fileOf f) to) b) f tt g → OnFile Unit (two op w (Register to) (Held (Register from))) f tt g
@@ -199,10 +213,10 @@ pub branch-if-is : (r d : ℕ) (f g : List ℕ) → d ≡ dispOf r → OnFile Un
 branch-if-is r d f g e h = rw (← e) h
 
 module _ (r m n : ℕ) (w : Bool) (f g : List ℕ) where
-  pub alu-rr-is : (op : Operation) (b : ℕ) → op ≡ operationAt (opOf r) → w ≡ wordOf r → n ≡ regOf r → b ≡ readReg w (fileOf f) n → m ≡ rmOf r
-      → OnFile Unit (settle op w (InRegister m) (readReg w (fileOf f) m) b) f tt g
+  pub alu-rr-is : (b : ℕ) → w ≡ wordOf r → n ≡ regOf r → b ≡ readReg w (fileOf f) n → m ≡ rmOf r
+      → OnFile Unit (settle (operationAt (opOf r)) w (InRegister m) (readReg w (fileOf f) m) b) f tt g
       → OnFile Unit (two (operationAt (opOf r)) (wordOf r) (Register (rmOf r)) (Held (Register (regOf r)))) f tt g
-  alu-rr-is op b a d k q l h = rw (← a, ← d, ← k, ← l) (two-is op w m n b f g q h)
+  alu-rr-is b d k q l h = rw (← d, ← k, ← l) (two-is (operationAt (opOf r)) w m n b f g q h)
 
   pub mov-rr-is : (v : ℕ) → w ≡ wordOf r → n ≡ regOf r → v ≡ readReg w (fileOf f) n → m ≡ rmOf r → OnFile Unit (setReg w m v) f tt g
       → OnFile Unit (mov (wordOf r) (Register (rmOf r)) (Held (Register (regOf r)))) f tt g
@@ -211,9 +225,9 @@ module _ (r m n : ℕ) (w : Bool) (f g : List ℕ) where
   pub mov-ri-is : (v : ℕ) → w ≡ wordOf r → m ≡ rmOf r → v ≡ immOf r → OnFile Unit (setReg w m v) f tt g → OnFile Unit (mov (wordOf r) (Register (rmOf r)) (Immediate (immOf r))) f tt g
   mov-ri-is v d l e h = rw (← d, ← l, ← e) (mov-imm-is w m v f g h)
 
-  pub alu-ri-is : (op : Operation) (b : ℕ) → op ≡ operationAt (opOf r) → w ≡ wordOf r → b ≡ immOf r → m ≡ rmOf r → OnFile Unit (settle op w (InRegister m) (readReg w (fileOf f) m) b) f tt g
+  pub alu-ri-is : (b : ℕ) → w ≡ wordOf r → b ≡ immOf r → m ≡ rmOf r → OnFile Unit (settle (operationAt (opOf r)) w (InRegister m) (readReg w (fileOf f) m) b) f tt g
       → OnFile Unit (two (operationAt (opOf r)) (wordOf r) (Register (rmOf r)) (Immediate (immOf r))) f tt g
-  alu-ri-is op b a d q l h = rw (← a, ← d, ← q, ← l) (two-imm-is op w m b f g h)
+  alu-ri-is b d q l h = rw (← d, ← q, ← l) (two-imm-is (operationAt (opOf r)) w m b f g h)
 
   pub one-r-is : (op : Unary) (a : ℕ) (x : Flagged) → op ≡ unaryAt (opOf r) → w ≡ wordOf r → m ≡ rmOf r → a ≡ readReg w (fileOf f) m → x ≡ flagged (unary op w a) (getD f PSW 0)
       → OnFile Unit (setReg w m (x .value)) (set f PSW (x .psw)) tt g → OnFile Unit (one (unaryAt (opOf r)) (wordOf r) (Register (rmOf r))) f tt g

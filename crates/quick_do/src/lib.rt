@@ -127,39 +127,31 @@ pub fn base(file: &[u16; 14], r: u64) -> u16
 // ---- operations
 
 // CMP drops the difference.
-fn conclude(file: &mut [u16; 14], op: Operation, word: bool, n: u8, v: u16)
-    ensures { λ _. ⌜ Sets (tree.conclude op word (InRegister n) v) file ⌝ }
+fn conclude(file: &mut [u16; 14], r: u64, word: bool, n: u8, v: u16)
+    ensures { λ _. ⌜ Sets (tree.conclude (operationAt (opOf r)) word (InRegister n) v) file ⌝ }
 {
-    match op {
-        Operation::Add => mach_registers::set_reg(word, file, n, v),
-        Operation::Or => mach_registers::set_reg(word, file, n, v),
-        Operation::Addc => mach_registers::set_reg(word, file, n, v),
-        Operation::Subc => mach_registers::set_reg(word, file, n, v),
-        Operation::And => mach_registers::set_reg(word, file, n, v),
-        Operation::Sub => mach_registers::set_reg(word, file, n, v),
-        Operation::Xor => mach_registers::set_reg(word, file, n, v),
-        Operation::Cmp => {}
+    if r / 1048576 % 8 != 7 {
+        mach_registers::set_reg(word, file, n, v);
     }
 }
 
-// An operation on a register and a number.
-pub fn alu_to(file: &mut [u16; 14], op: Operation, word: bool, to: u8, b: u16)
-    ensures { λ _. ⌜ Sets (settle op word (InRegister to) (readReg word (fileOf (now (file .entry))) to) b) file ⌝ }
+// The reading's operation on a register and a number.
+pub fn alu_to(file: &mut [u16; 14], r: u64, word: bool, to: u8, b: u16)
+    ensures { λ _. ⌜ Sets (settle (operationAt (opOf r)) word (InRegister to) (readReg word (fileOf (now (file .entry))) to) b) file ⌝ }
 {
     let a = mach_registers::reg(word, file, to);
-    let x = calc_arith::operate(op, word, a, b, file[PSW]);
+    let x = calc_arith::operate(op_of(r), word, a, b, file[PSW]);
     file[PSW] = x.psw;
-    conclude(file, op, word, to, x.value);
+    conclude(file, r, word, to, x.value);
 }
 
 // Kind 1: an operation on two registers.
 pub fn alu_rr(file: &mut [u16; 14], r: u64)
     ensures { λ _. ⌜ Sets (tree.two (operationAt (opOf r)) (wordOf r) (Register (rmOf r)) (Held (Register (regOf r)))) file ⌝ }
 {
-    let op = op_of(r);
     let word = word_of(r);
     let b = mach_registers::reg(word, file, reg_of(r));
-    alu_to(file, op, word, rm_of(r), b);
+    alu_to(file, r, word, rm_of(r), b);
 }
 
 // Kind 4: MOV reg,reg.
@@ -190,9 +182,8 @@ pub fn branch_if(file: &mut [u16; 14], r: u64)
 pub fn alu_ri(file: &mut [u16; 14], r: u64)
     ensures { λ _. ⌜ Sets (tree.two (operationAt (opOf r)) (wordOf r) (Register (rmOf r)) (Immediate (immOf r))) file ⌝ }
 {
-    let op = op_of(r);
     let word = word_of(r);
-    alu_to(file, op, word, rm_of(r), imm_of(r));
+    alu_to(file, r, word, rm_of(r), imm_of(r));
 }
 
 // Kind 19: INC, DEC, NOT, NEG of a register.

@@ -45,6 +45,7 @@ use Rattle.quick_tally.specs.Packed.{busAt}
 use Rattle.mach_tally.proofs.Bounds.{within-access, within-memory}
 use Rattle.quick_tally.proofs.Laws.{both-fit}
 use Rattle.quick_do.specs.Settle.{settle}
+use Rattle.quick_do.proofs.Laws.{concludes-at, op-below}
 use Rattle.quick_memory.specs.Settled.{Moved, Operated}
 
 pub located : (a : Address) (f : List ℕ) (g o : ℕ) → g ≡ baseOf (fileOf f) a → o ≡ offsetOf (fileOf f) a → OnFile Spot (locate (Memory a)) f (InMemory g o) f
@@ -127,17 +128,17 @@ alu-store : (op : Operation) (w : Bool) (s : Source) (a : Address) (f h ram ram�
 unfolding two settle fetch
 alu-store op w s a f h ram ram′ rom g o x y n k e q l z p = memory-free _ (located a f g o e q) (memory-seq _ {t = 2} {u = 2} (l .at f) (memory-free _ z p))
 
-module _ (r : ℕ) (op : Operation) (w : Bool) (f h ram ram′ rom : List ℕ) (g o n : ℕ) (known : op ≡ operationAt (opOf r)) (wide : w ≡ wordOf r) (at : g ≡ baseOf (fileOf f) (addressOf r)) (off : o ≡ offsetOf (fileOf f) (addressOf r))
+module _ (r : ℕ) (w : Bool) (f h ram ram′ rom : List ℕ) (g o n : ℕ) (wide : w ≡ wordOf r) (at : g ≡ baseOf (fileOf f) (addressOf r)) (off : o ≡ offsetOf (fileOf f) (addressOf r))
     (v : ℕ) (e : v ≡ readMem w ram rom g o) (l : v < modOf w) (cost : Costs w o 0 (busAt n)) where
-  pub alu-rm-is : (m : ℕ) → m ≡ regOf r → OnFile Unit (settle op w (InRegister m) (readReg w (fileOf f) m) v) f tt h
+  pub alu-rm-is : (m : ℕ) → m ≡ regOf r → OnFile Unit (settle (operationAt (opOf r)) w (InRegister m) (readReg w (fileOf f) m) v) f tt h
       → OnMemory Unit (two (operationAt (opOf r)) (wordOf r) (Register (regOf r)) (Held (Memory (addressOf r)))) f ram rom tt h ram (busAt n) 6
   alu-rm-is m reg y =
-      rw (← known, ← wide, ← reg) (memory-at-most {t = 2} 6 (lit≤ tt) (alu-load op w m (addressOf r) f h ram rom v (busAt n) (fetched w (addressOf r) f ram rom g o v (busAt n) at off (loads w ram rom g o v (busAt n) e l cost)) y))
+      rw (← wide, ← reg) (memory-at-most {t = 2} 6 (lit≤ tt) (alu-load (operationAt (opOf r)) w m (addressOf r) f h ram rom v (busAt n) (fetched w (addressOf r) f ram rom g o v (busAt n) at off (loads w ram rom g o v (busAt n) e l cost)) y))
 
-  pub alu-at-is : (b k t : ℕ) (x : Flagged) → x ≡ flagged (operated op w v b (flagOf (getD f PSW 0) CY)) (getD f PSW 0)
+  pub alu-at-is : (op : Operation) (b k t : ℕ) (x : Flagged) → op ≡ operationAt (opOf r) → x ≡ flagged (operated op w v b (flagOf (getD f PSW 0) CY)) (getD f PSW 0)
       → OnMemory Unit (conclude (operationAt (opOf r)) w (InMemory g o) (x .value)) (set f PSW (x .psw)) ram rom tt h ram′ (busAt k) 2 → Joins (busAt n) (busAt k) (busAt t)
       → Operated r b f ram rom h ram′ t
-  alu-at-is b k t x z y j = record {
+  alu-at-is op b k t x known z y j = record {
     from = λ s q.
         rw (← known, ← wide, j .is)
         (memory-at-most {t = 4} 6 (lit≤ tt)
@@ -178,22 +179,6 @@ one-m-is r op w f ram ram′ rom g o v n k t y known wide at off e l cost z h j 
 
 pub store-fits : (w : Bool) (o n k g v : ℕ) (ram ram′ : List ℕ) → Costs w o 0 (busAt n) → Stores w ram g o v ram′ (busAt k) → busAt n .cycles + busAt k .cycles + (busAt n .dropped + busAt k .dropped) ≤ 4294967295
 store-fits w o n k g v ram ram′ x y = access-fits w o n k x (y .at ram ram)
-
--- what is kept of the operation with a number
-concludes-at : (k : ℕ) (w : Bool) (s : Spot) (v : ℕ) → k < 8 → conclude (operationAt k) w s v ≡ pick (eqb k 7) (pure tt) (deposit w s v)
-unfolding operationAt conclude
-concludes-at zero w s v h = refl
-concludes-at (suc zero) w s v h = refl
-concludes-at (suc (suc zero)) w s v h = refl
-concludes-at (suc (suc (suc zero))) w s v h = refl
-concludes-at (suc (suc (suc (suc zero)))) w s v h = refl
-concludes-at (suc (suc (suc (suc (suc zero))))) w s v h = refl
-concludes-at (suc (suc (suc (suc (suc (suc zero)))))) w s v h = refl
-concludes-at (suc (suc (suc (suc (suc (suc (suc zero))))))) w s v h = refl
-concludes-at (suc (suc (suc (suc (suc (suc (suc (suc k)))))))) w s v h = absurd (omega arith)
-
-op-below : (r : ℕ) → opOf r < 8
-op-below r = omega arith
 
 module _ (r : ℕ) (w : Bool) (g o v : ℕ) (f ram rom : List ℕ) where
   pub drops-cmp : (n : ℕ) → opOf r ≡ 7 → Free (busAt n) → OnMemory Unit (conclude (operationAt (opOf r)) w (InMemory g o) v) f ram rom tt f ram (busAt n) 2

@@ -94,8 +94,7 @@ pub fn alu_rm(file: &mut [u16; 14], ram: &[u8], rom: &[u8], r: u64) -> u64
     let g = quick_do::base(file, r);
     let o = quick_do::offset(file, r);
     let b = mach_memory::read(word, ram, rom, g, o);
-    let op = quick_do::op_of(r);
-    quick_do::alu_to(file, op, word, quick_do::reg_of(r), b);
+    quick_do::alu_to(file, r, word, quick_do::reg_of(r), b);
     quick_tally::of_access(word, o)
 }
 

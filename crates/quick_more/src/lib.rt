@@ -119,7 +119,7 @@ pub fn dbnze(file: &mut [u16; 14], r: u64)
     do_conditional::conditional(file, Conditional::Dbnze { disp });
 }
 
-// Kind 45: BCWZ.
+// Kind 36: BCWZ.
 pub fn bcwz(file: &mut [u16; 14], r: u64)
     ensures { λ _. ⌜ OnFile Unit (bcwzOf (dispOf r)) (now (file .entry)) tt (now (file .exit)) ⌝ }
 {

@@ -5,7 +5,6 @@ use mathlib.Core.Bool.{Bool}
 use Rattle.sheet.specs.declared.Instr.the-variants.{Multiplies, Blocks, Ports}
 use Rattle.sheet.specs.declared.Place.the-variants.{Register, Memory}
 use Rattle.sheet.specs.declared.Source.the-variants.{Held, Immediate}
-use Rattle.sheet.specs.declared.Multiply.the-variants.{Mulu, Mul}
 use Rattle.sheet.specs.declared.Io.the-variants.{In, Out}
 use Rattle.sheet.specs.declared.Repeat.the-variants.{WhileZ}
 use Rattle.sheet.specs.declared.Places.the-variants as places
@@ -16,7 +15,7 @@ use Rattle.sheet.specs.declared.Branch.the-variants.{CallNear, Ret, BrNear, BrS
 use Rattle.sheet.specs.declared.Conditional.the-variants.{If, Dbnz, Dbnzne, Dbnze, Bcwz}
 use Rattle.sheet.specs.Groups.{Transfers, Calculates, Converts, Shifts, Decimals, Stacks, Branches, Tests}
 use Rattle.sheet.specs.FirstByte.{operationAt}
-use Rattle.quick_place.specs.Packed.{unaryAt, shiftAt, convertAt, stringAt, primitiveAt, repeatAt, addressAt, Fields}
+use Rattle.quick_place.specs.Packed.{unaryAt, shiftAt, convertAt, stringAt, productAt, primitiveAt, repeatAt, addressAt, Fields}
 use Rattle.quick_pack.specs.Readings.{amountAt, readings, further, rest, portAt, streamAt, portReadings, instrOf}
 
 module _ {r z m g o s d i : ℕ} {b : Bool} where
@@ -136,13 +135,13 @@ module _ {r z m g o s d i : ℕ} {b : Bool} where
   unfolding instrOf rest
   is-34 f = rw (f .kind-is, f .op-is)
 
-  pub is-35 : Fields r 35 z m g o s b d i → instrOf r ≡ Multiplies (Mulu b (Register m))
+  pub is-35 : Fields r 35 z m g o s b d i → instrOf r ≡ Multiplies (productAt (o % 8) b (Register m))
   unfolding instrOf rest
-  is-35 f = rw (f .kind-is, f .word-is, f .rm-is)
+  is-35 f = rw (f .kind-is, f .op-is, f .word-is, f .rm-is)
 
-  pub is-36 : Fields r 36 z m g o s b d i → instrOf r ≡ Multiplies (Mul b (Register m))
+  pub is-36 : Fields r 36 z m g o s b d i → instrOf r ≡ Tests (Bcwz d)
   unfolding instrOf rest
-  is-36 f = rw (f .kind-is, f .word-is, f .rm-is)
+  is-36 f = rw (f .kind-is, f .disp-is)
 
   pub is-37 : Fields r 37 z m g o s b d i → instrOf r ≡ Shifts (shiftAt (o % 8)) b (Register m) (places.Counted (amountAt g i))
   unfolding instrOf rest
@@ -175,10 +174,6 @@ module _ {r z m g o s d i : ℕ} {b : Bool} where
   pub is-44 : Fields r 44 z m g o s b d i → instrOf r ≡ Tests (Dbnze d)
   unfolding instrOf rest
   is-44 f = rw (f .kind-is, f .disp-is)
-
-  pub is-45 : Fields r 45 z m g o s b d i → instrOf r ≡ Tests (Bcwz d)
-  unfolding instrOf rest
-  is-45 f = rw (f .kind-is, f .disp-is)
 
   pub is-48 : Fields r 48 z m g o s b d i → instrOf r ≡ Ports (In b (portAt m d))
   unfolding instrOf portReadings

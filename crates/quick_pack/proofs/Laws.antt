@@ -22,7 +22,7 @@ use Rattle.sheet.specs.declared.Instr.{Instr}
 use Rattle.sheet.specs.declared.Instr.the-variants.{Computes, Multiplies, Blocks, Ports}
 use Rattle.sheet.specs.declared.Io.the-variants.{In, Out}
 use Rattle.sheet.specs.declared.Multiply.{Multiply}
-use Rattle.sheet.specs.declared.Multiply.the-variants.{Mulu, Mul}
+use Rattle.sheet.specs.declared.Multiply.the-variants.{Mulu, Mul, Divu, Div}
 use Rattle.sheet.specs.declared.Operation.{Operation}
 use Rattle.sheet.specs.declared.Place.{Place}
 use Rattle.sheet.specs.declared.Place.the-variants.{Register, Memory}
@@ -44,9 +44,9 @@ use Rattle.sheet.specs.declared.Transfer.the-variants.{Mov, LoadAcc, StoreAcc, 
 use Rattle.sheet.specs.declared.Unary.{Unary}
 use Rattle.sheet.specs.Groups.{Transfers, Calculates, Converts, Shifts, Decimals, Stacks, Branches, Tests}
 use Rattle.sheet.specs.FirstByte.{operationAt}
-use Rattle.quick_place.specs.Packed.{unaryAt, shiftAt, convertAt, stringAt, primitiveAt, repeatAt, addressAt, Fields, Joined, unjoined, joined, Located, unlocated, located, Placed, unplaced, register, memory}
+use Rattle.quick_place.specs.Packed.{unaryAt, shiftAt, convertAt, stringAt, productAt, primitiveAt, repeatAt, addressAt, Fields, Joined, unjoined, joined, Located, unlocated, located, Placed, unplaced, register, memory}
 use Rattle.quick_pack.specs.Readings.{amountAt, portAt, streamAt, instrOf, Packs, none, packs}
-use Rattle.quick_pack.proofs.KindLaws.{is-1, is-2, is-3, is-4, is-5, is-6, is-7, is-8, is-9, is-10, is-11, is-12, is-16, is-17, is-18, is-19, is-20, is-21, is-22, is-23, is-24, is-25, is-26, is-27, is-28, is-29, is-32, is-33, is-34, is-35, is-36, is-37, is-38, is-39, is-40, is-41, is-42, is-43, is-44, is-45, is-48, is-49, is-50}
+use Rattle.quick_pack.proofs.KindLaws.{is-1, is-2, is-3, is-4, is-5, is-6, is-7, is-8, is-9, is-10, is-11, is-12, is-16, is-17, is-18, is-19, is-20, is-21, is-22, is-23, is-24, is-25, is-26, is-27, is-28, is-29, is-32, is-33, is-34, is-35, is-36, is-37, is-38, is-39, is-40, is-41, is-42, is-43, is-44, is-48, is-49, is-50}
 
 -- an instruction that is known to be another
 pub known : {I : Type 0} (f : I → Instr) {i j : I} {z r : ℕ} → i ≡ j → Packs (f j) z r → Packs (f i) z r
@@ -183,8 +183,8 @@ module _ (z r : ℕ) where
     pub dbnze : (d : ℕ) → i ≡ Dbnze d → Joined 44 z 0 0 0 0 false d 0 r → Packs (Tests i) z r
     dbnze d e h = rw e (packed (Tests (Dbnze d)) h is-44)
 
-    pub bcwz : (d : ℕ) → i ≡ Bcwz d → Joined 45 z 0 0 0 0 false d 0 r → Packs (Tests i) z r
-    bcwz d e h = rw e (packed (Tests (Bcwz d)) h is-45)
+    pub bcwz : (d : ℕ) → i ≡ Bcwz d → Joined 36 z 0 0 0 0 false d 0 r → Packs (Tests i) z r
+    bcwz d e h = rw e (packed (Tests (Bcwz d)) h is-36)
 
     pub branch-if : (n d : ℕ) → i ≡ If n d → Joined 10 z 0 0 n 0 false d 0 r → Packs (Tests i) z r
     branch-if n d e h = rw e (packed (Tests (If n d)) h is-10)
@@ -192,7 +192,7 @@ module _ (z r : ℕ) where
     pub dbnz : (d : ℕ) → i ≡ Dbnz d → Joined 23 z 0 0 0 0 false d 0 r → Packs (Tests i) z r
     dbnz d e h = rw e (packed (Tests (Dbnz d)) h is-23)
 
--- ---- blocks, decimal strings, conversions, products
+-- ---- blocks, decimal strings, conversions, products and quotients
 
 module _ (z r o g : ℕ) where
   pub block-is : (p : Primitive) (w : Bool) (seg : ℕ) (q : Repeat) → p ≡ getD (Movbk ∷ Cmpbk ∷ Cmpm ∷ Ldm ∷ Stm ∷ []) (o % 8) Movbk → q ≡ repeatAt g → Joined 32 z 0 g o seg w 0 0 r
@@ -207,12 +207,13 @@ module _ (z r o g : ℕ) where
   pub convert-is : (i : Convert) → i ≡ convertAt (o % 8) → Joined 34 z 0 0 o 0 false 0 0 r → Packs (Converts i) z r
   convert-is i e h = rw e (packed (Converts (convertAt (o % 8))) h is-34)
 
-module _ (z r n : ℕ) (i : Multiply) (w : Bool) (by : Place) (register-is : by ≡ Register n) where
-  pub mulu-is : i ≡ Mulu w by → Joined 35 z n 0 0 0 w 0 0 r → Packs (Multiplies i) z r
-  mulu-is e h = rw (e, register-is) (packed (Multiplies (Mulu w (Register n))) h is-35)
+module _ (z r o : ℕ) (w : Bool) (by : Place) where
+  pub product-is : (n : ℕ) → by ≡ Register n → Joined 35 z n 0 o 0 w 0 0 r → Packs (Multiplies (productAt (o % 8) w by)) z r
+  product-is n e h = rw e (packed (Multiplies (productAt (o % 8) w (Register n))) h is-35)
 
-  pub mul-is : i ≡ Mul w by → Joined 36 z n 0 0 0 w 0 0 r → Packs (Multiplies i) z r
-  mul-is e h = rw (e, register-is) (packed (Multiplies (Mul w (Register n))) h is-36)
+  pub product-of : (i : Multiply) → i ≡ getD (Mulu w by ∷ Mul w by ∷ Divu w by ∷ Div w by ∷ []) (o % 8) (Mulu w by) → Packs (Multiplies (productAt (o % 8) w by)) z r → Packs (Multiplies i) z r
+  unfolding productAt
+  product-of i e h = rw e h
 
 -- ---- ports
 

@@ -12,7 +12,6 @@ use Rattle.sheet.specs.declared.Instr.the-variants.{Multiplies, Blocks, Ports, 
 use Rattle.sheet.specs.declared.Control.the-variants.{Nop}
 use Rattle.sheet.specs.declared.Place.the-variants.{Register, Memory}
 use Rattle.sheet.specs.declared.Source.the-variants.{Held, Immediate}
-use Rattle.sheet.specs.declared.Multiply.the-variants.{Mulu, Mul}
 use Rattle.sheet.specs.declared.Io.the-variants.{In, Out}
 use Rattle.sheet.specs.declared.Port.{Port}
 use Rattle.sheet.specs.declared.Port.the-variants.{InDw, Numbered}
@@ -28,7 +27,7 @@ use Rattle.sheet.specs.declared.Branch.the-variants.{CallNear, Ret, BrNear, BrS
 use Rattle.sheet.specs.declared.Conditional.the-variants.{If, Dbnz, Dbnzne, Dbnze, Bcwz}
 use Rattle.sheet.specs.Groups.{Transfers, Calculates, Converts, Shifts, Decimals, Stacks, Branches, Tests}
 use Rattle.sheet.specs.FirstByte.{operationAt}
-use Rattle.quick_place.specs.Packed.{kindOf, sizeOf, rmOf, regOf, opOf, unaryAt, shiftAt, convertAt, stringAt, primitiveAt, repeatAt, condOf, segOf, wordOf, dispOf, immOf, addressOf}
+use Rattle.quick_place.specs.Packed.{kindOf, sizeOf, rmOf, regOf, opOf, unaryAt, shiftAt, convertAt, stringAt, productAt, primitiveAt, repeatAt, condOf, segOf, wordOf, dispOf, immOf, addressOf}
 
 -- an operation on two registers, on a register and memory, on memory and a register; MOV of the same three, and of an immediate; PUSH, POP, branches
 unfoldable pub readings : ℕ → List Instr
@@ -71,14 +70,14 @@ further r =
 unfoldable pub amountAt : ℕ → ℕ → Amount
 amountAt g v = pick (eqb g 1) InCl (Given (v % 256))
 
--- from 32 on: a block's primitive, single or repeated; decimal strings; conversions; products with a register; shifts by a count; LDEA, XCH, MOV from a segment register; BR far, the other loops
+-- from 32 on: a block's primitive, single or repeated; decimal strings; conversions; products and quotients with a register; BCWZ; shifts by a count; LDEA, XCH, MOV from a segment register; BR far, the other loops
 unfoldable pub rest : ℕ → List Instr
 rest r =
     Blocks (primitiveAt (opOf r)) (wordOf r) (segOf r) (repeatAt (regOf r))
     ∷ Decimals (stringAt (opOf r) (segOf r))
     ∷ Converts (convertAt (opOf r))
-    ∷ Multiplies (Mulu (wordOf r) (Register (rmOf r)))
-    ∷ Multiplies (Mul (wordOf r) (Register (rmOf r)))
+    ∷ Multiplies (productAt (opOf r) (wordOf r) (Register (rmOf r)))
+    ∷ Tests (Bcwz (dispOf r))
     ∷ Shifts (shiftAt (opOf r)) (wordOf r) (Register (rmOf r)) (places.Counted (amountAt (regOf r) (immOf r)))
     ∷ Shifts (shiftAt (opOf r)) (wordOf r) (Memory (addressOf r)) (places.Counted (amountAt (regOf r) (immOf r)))
     ∷ Transfers (Ldea (regOf r) (addressOf r))
@@ -87,7 +86,6 @@ rest r =
     ∷ Branches (BrFar (immOf r) (dispOf r))
     ∷ Tests (Dbnzne (dispOf r))
     ∷ Tests (Dbnze (dispOf r))
-    ∷ Tests (Bcwz (dispOf r))
     ∷ []
 
 -- 8 in the register's field stands for the number in the displacement's, as in an address

@@ -32,7 +32,7 @@ ghost use Rattle.sheet.specs.declared.Transfer.the-variants.{Mov};
 ghost use Rattle.sheet.specs.declared.Io.the-variants.{In, Out};
 ghost use Rattle.sheet.specs.Groups.{Transfers, Calculates, Converts, Shifts, Decimals, Stacks, Branches, Tests};
 ghost use Rattle.sheet.specs.FirstByte.{operationAt};
-ghost use Rattle.quick_place.specs.Packed.{unaryAt, shiftAt, convertAt, repeatAt};
+ghost use Rattle.quick_place.specs.Packed.{unaryAt, shiftAt, convertAt, productAt, repeatAt};
 ghost use Rattle.quick_pack.specs.Readings.{streamAt, atPort, Packs};
 
 // ---- the field of the operation
@@ -310,7 +310,7 @@ fn conditional(i: Conditional, size: u16) -> u64
         Conditional::Dbnzne { disp } => quick_place::join(43, size, 0, 0, 0, 0, false, disp, 0),
         Conditional::Dbnze { disp } => quick_place::join(44, size, 0, 0, 0, 0, false, disp, 0),
         Conditional::Dbnz { disp } => quick_place::join(23, size, 0, 0, 0, 0, false, disp, 0),
-        Conditional::Bcwz { disp } => quick_place::join(45, size, 0, 0, 0, 0, false, disp, 0),
+        Conditional::Bcwz { disp } => quick_place::join(36, size, 0, 0, 0, 0, false, disp, 0),
     }
 }
 
@@ -325,19 +325,24 @@ fn moving(i: Move, size: u16) -> u64
     }
 }
 
-// Those with memory, and the quotients, which may trap, take the general path.
+// Those with memory take the general path.
+fn product(o: u8, word: bool, by: Place, size: u16) -> u64
+    ensures { λ r. ⌜ Packs (Multiplies (productAt (o % 8) word by)) size r ⌝ }
+{
+    match by {
+        Place::Register(n) => quick_place::join(35, size, n, 0, o, 0, word, 0, 0),
+        Place::Memory(a) => 0,
+    }
+}
+
 fn multiply(i: Multiply, size: u16) -> u64
     ensures { λ r. ⌜ Packs (Multiplies i) size r ⌝ }
 {
     match i {
-        Multiply::Mulu { word, by } => match by {
-            Place::Register(n) => quick_place::join(35, size, n, 0, 0, 0, word, 0, 0),
-            Place::Memory(a) => 0,
-        },
-        Multiply::Mul { word, by } => match by {
-            Place::Register(n) => quick_place::join(36, size, n, 0, 0, 0, word, 0, 0),
-            Place::Memory(a) => 0,
-        },
+        Multiply::Mulu { word, by } => product(0, word, by, size),
+        Multiply::Mul { word, by } => product(1, word, by, size),
+        Multiply::Divu { word, by } => product(2, word, by, size),
+        Multiply::Div { word, by } => product(3, word, by, size),
         _ => 0,
     }
 }

@@ -1,6 +1,6 @@
 -- What the instruction of each kind of reading does.
 use Prim.Native.Nat.{ℕ, _%_}
-use mathlib.Core.Bool.{true, false}
+use mathlib.Core.Bool.{Bool, true, false}
 use mathlib.Core.List.{List, [], _∷_}
 use lib.ListN.{getD}
 use Rattle.sheet.specs.declared.Place.the-variants.{Register, Memory}
@@ -12,13 +12,13 @@ use Rattle.sheet.specs.Arithmetic.{two, one, test}
 use Rattle.sheet.specs.Block.{block}
 use Rattle.sheet.specs.Convert.{convert}
 use Rattle.sheet.specs.Decimal.{decimal}
-use Rattle.sheet.specs.Multiply.{mulu, mul}
+use Rattle.sheet.specs.Multiply.{multiply}
 use Rattle.sheet.specs.Shift.{shift}
 use Rattle.sheet.specs.Transfer.{mov, loadAcc, storeAcc, ldea, xch, fromSegment}
 use Rattle.sheet.specs.Stack.{pushRegister, popPlace}
-use Rattle.sheet.specs.Traps.{jumpFar}
+use Rattle.sheet.specs.Traps.{untrapped, jumpFar}
 use Rattle.sheet.specs.Branch.{jump, branchIf, dbnz, dbnzWhile, bcwz, callNear, ret}
-use Rattle.quick_place.specs.Packed.{kindOf, opOf, unaryAt, shiftAt, convertAt, stringAt, primitiveAt, repeatAt, condOf, segOf, wordOf, rmOf, regOf, dispOf, immOf, addressOf}
+use Rattle.quick_place.specs.Packed.{kindOf, opOf, unaryAt, shiftAt, convertAt, stringAt, productAt, primitiveAt, repeatAt, condOf, segOf, wordOf, rmOf, regOf, dispOf, immOf, addressOf}
 use Rattle.quick_pack.specs.Readings.{amountAt}
 
 -- in the order of `readings`
@@ -58,23 +58,22 @@ furtherTrees r =
     ∷ test (wordOf r) (Register (rmOf r)) (Immediate (immOf r))
     ∷ []
 
--- in the order of `rest`
-abbrev pub restTrees : ℕ → ℕ → List (Act Unit)
+-- in the order of `rest`; quotients may trap
+abbrev pub restTrees : ℕ → ℕ → List (Act Bool)
 restTrees r start =
-    block (primitiveAt (opOf r)) (wordOf r) (segOf r) (repeatAt (regOf r)) start
-    ∷ decimal (stringAt (opOf r) (segOf r))
-    ∷ convert (convertAt (opOf r))
-    ∷ mulu (wordOf r) (Register (rmOf r))
-    ∷ mul (wordOf r) (Register (rmOf r))
-    ∷ shift (shiftAt (opOf r)) (wordOf r) (Register (rmOf r)) (Counted (amountAt (regOf r) (immOf r)))
-    ∷ shift (shiftAt (opOf r)) (wordOf r) (Memory (addressOf r)) (Counted (amountAt (regOf r) (immOf r)))
-    ∷ ldea (regOf r) (addressOf r)
-    ∷ xch (wordOf r) (regOf r) (Register (rmOf r))
-    ∷ fromSegment (Register (rmOf r)) (segOf r)
-    ∷ jumpFar (immOf r) (dispOf r)
-    ∷ dbnzWhile false (dispOf r)
-    ∷ dbnzWhile true (dispOf r)
-    ∷ bcwz (dispOf r)
+    untrapped (block (primitiveAt (opOf r)) (wordOf r) (segOf r) (repeatAt (regOf r)) start)
+    ∷ untrapped (decimal (stringAt (opOf r) (segOf r)))
+    ∷ untrapped (convert (convertAt (opOf r)))
+    ∷ multiply (productAt (opOf r) (wordOf r) (Register (rmOf r)))
+    ∷ untrapped (bcwz (dispOf r))
+    ∷ untrapped (shift (shiftAt (opOf r)) (wordOf r) (Register (rmOf r)) (Counted (amountAt (regOf r) (immOf r))))
+    ∷ untrapped (shift (shiftAt (opOf r)) (wordOf r) (Memory (addressOf r)) (Counted (amountAt (regOf r) (immOf r))))
+    ∷ untrapped (ldea (regOf r) (addressOf r))
+    ∷ untrapped (xch (wordOf r) (regOf r) (Register (rmOf r)))
+    ∷ untrapped (fromSegment (Register (rmOf r)) (segOf r))
+    ∷ untrapped (jumpFar (immOf r) (dispOf r))
+    ∷ untrapped (dbnzWhile false (dispOf r))
+    ∷ untrapped (dbnzWhile true (dispOf r))
     ∷ []
 
 -- by the low digit of the kind
@@ -84,5 +83,5 @@ firstTree r = getD (trees r) (kindOf r % 16) (pure tt)
 unfoldable pub furtherTree : ℕ → Act Unit
 furtherTree r = getD (furtherTrees r) (kindOf r % 16) (pure tt)
 
-unfoldable pub restTree : ℕ → ℕ → Act Unit
-restTree r start = getD (restTrees r start) (kindOf r % 16) (pure tt)
+unfoldable pub restTree : ℕ → ℕ → Act Bool
+restTree r start = getD (restTrees r start) (kindOf r % 16) (untrapped (pure tt))

@@ -1,10 +1,13 @@
 // A reading done, by its kind.
 use mach_registers::PC;
 ghost use mathlib.Core.Path.{_≡_};
-ghost use mathlib.Core.Bool.{Bool, false};
+ghost use mathlib.Core.Bool.{false};
+ghost use lib.ListN.{getD};
+ghost use Rattle.sheet.specs.Registers.{PC};
 ghost use Rattle.sheet.specs.Execute.{operation, execute};
-ghost use Rattle.mach_tally.specs.Lent.{Does, Gives};
+ghost use Rattle.mach_tally.specs.Lent.{Does};
 ghost use Rattle.quick_tally.specs.Packed.{busAt};
+ghost use Rattle.quick_tally.specs.Tries.{TriesOn};
 ghost use Rattle.quick_place.specs.Packed.{sizeOf};
 ghost use Rattle.quick_pack.specs.Readings.{atPort, instrOf};
 ghost use Rattle.quick_perform.specs.Trees.{firstTree, furtherTree, restTree};
@@ -91,7 +94,7 @@ fn further(file: &mut [u16; 14], ram: &mut [u8], rom: &[u8], r: u64) -> u64
 
 // Kinds 32 to 47.
 fn rest(file: &mut [u16; 14], ram: &mut [u8], rom: &[u8], r: u64, start: u16) -> u64
-    ensures { λ n. ⌜ Does (restTree r start) file ram rom (busAt n) 384 ⌝ }
+    ensures { λ n. ⌜ TriesOn (restTree r start) file ram rom n 384 ⌝ }
 {
     match r % 256 % 16 {
         0 => quick_rest::block(file, ram, rom, r, start),
@@ -100,8 +103,11 @@ fn rest(file: &mut [u16; 14], ram: &mut [u8], rom: &[u8], r: u64, start: u16) ->
             quick_rest::convert(file, r);
             0
         }
-        3 => quick_rest::mulu(file, ram, rom, r),
-        4 => quick_rest::mul(file, ram, rom, r),
+        3 => quick_rest::multiply(file, ram, rom, r),
+        4 => {
+            quick_more::bcwz(file, r);
+            0
+        }
         5 => quick_more::shift_r(file, ram, rom, r),
         6 => quick_more::shift_m(file, ram, rom, r),
         7 => {
@@ -128,10 +134,6 @@ fn rest(file: &mut [u16; 14], ram: &mut [u8], rom: &[u8], r: u64, start: u16) ->
             quick_more::dbnze(file, r);
             0
         }
-        13 => {
-            quick_more::bcwz(file, r);
-            0
-        }
         _ => 0,
     }
 }
@@ -139,7 +141,7 @@ fn rest(file: &mut [u16; 14], ram: &mut [u8], rom: &[u8], r: u64, start: u16) ->
 // PC stands on the next instruction.
 fn operate(file: &mut [u16; 14], ram: &mut [u8], rom: &[u8], r: u64, start: u16) -> u64
     requires { ⌜ atPort r ≡ false ⌝ }
-    ensures { λ n. ⌜ Gives Bool (operation (instrOf r) start) file ram rom false (busAt n) 384 ⌝ }
+    ensures { λ n. ⌜ TriesOn (operation (instrOf r) start) file ram rom n 384 ⌝ }
 {
     match r % 256 / 16 {
         0 => first(file, ram, rom, r),
@@ -149,12 +151,11 @@ fn operate(file: &mut [u16; 14], ram: &mut [u8], rom: &[u8], r: u64, start: u16)
     }
 }
 
-// A reading done, with PC moved past it.
-pub fn perform(file: &mut [u16; 14], ram: &mut [u8], rom: &[u8], r: u64) -> u64
-    requires { ⌜ atPort r ≡ false ⌝ }
-    ensures { λ n. ⌜ Gives Bool (execute (instrOf r) (sizeOf r)) file ram rom false (busAt n) 1020 ⌝ }
+// A reading done, with PC moved past it. `start` is PC, which the caller has at hand.
+pub fn perform(file: &mut [u16; 14], ram: &mut [u8], rom: &[u8], r: u64, start: u16) -> u64
+    requires { ⌜ (atPort r ≡ false) × (start ≡ getD (now file) PC 0) ⌝ }
+    ensures { λ n. ⌜ TriesOn (execute (instrOf r) (sizeOf r)) file ram rom n 1020 ⌝ }
 {
-    let start = file[PC];
     file[PC] = calc_word::plus16(start, (r / 256 % 16) as u16);
     operate(file, ram, rom, r, start)
 }

@@ -11,6 +11,8 @@ use Rattle.sheet.specs.declared.Convert.{Convert}
 use Rattle.sheet.specs.declared.Convert.the-variants.{Adjba, Adj4a, Adjbs, Adj4s, Cvtbd, Cvtdb, Cvtbw, Cvtwl}
 use Rattle.sheet.specs.declared.Decimal.{Decimal}
 use Rattle.sheet.specs.declared.Decimal.the-variants.{Add4s, Sub4s, Cmp4s}
+use Rattle.sheet.specs.declared.Multiply.{Multiply}
+use Rattle.sheet.specs.declared.Multiply.the-variants.{Mulu, Mul, Divu, Div}
 use Rattle.sheet.specs.declared.Place.{Place}
 use Rattle.sheet.specs.declared.Place.the-variants.{Register, Memory}
 use Rattle.sheet.specs.declared.Primitive.{Primitive}
@@ -73,6 +75,9 @@ convertAt n = getD (Adjba ∷ Adj4a ∷ Adjbs ∷ Adj4s ∷ Cvtbd ∷ Cvtdb ∷ 
 
 unfoldable pub stringAt : ℕ → ℕ → Decimal
 stringAt n seg = getD (Add4s seg ∷ Sub4s seg ∷ Cmp4s seg ∷ []) n (Add4s seg)
+
+unfoldable pub productAt : ℕ → Bool → Place → Multiply
+productAt n w by = getD (Mulu w by ∷ Mul w by ∷ Divu w by ∷ Div w by ∷ []) n (Mulu w by)
 
 unfoldable pub primitiveAt : ℕ → Primitive
 primitiveAt n = getD (Movbk ∷ Cmpbk ∷ Cmpm ∷ Ldm ∷ Stm ∷ []) n Movbk

@@ -1,7 +1,7 @@
 -- What each return of the code comes to, over plain values.
 use Prim.Native.Nat.{ℕ, zero, suc, _/_, _%_}
-use mathlib.Core.Path.{_≡_, refl, sym, _∙_}
-use mathlib.Core.Bool.{Bool, false}
+use mathlib.Core.Path.{_≡_, refl}
+use mathlib.Core.Bool.{Bool}
 use mathlib.Core.List.{List, [], _∷_}
 use lib.Dec.{lit≤}
 use lib.ListN.{getD}
@@ -17,20 +17,17 @@ use Rattle.sheet.specs.declared.Repeat.the-variants.{Once, WhileZ, WhileNotZ, W
 use Rattle.sheet.specs.Block.{block}
 use Rattle.sheet.specs.Convert.{convert}
 use Rattle.sheet.specs.Decimal.{decimal}
-use Rattle.sheet.specs.declared.Multiply.the-variants.{Mulu, Mul}
+use Rattle.sheet.specs.declared.Multiply.{Multiply}
+use Rattle.sheet.specs.declared.Multiply.the-variants.{Mulu, Mul, Divu, Div}
 use Rattle.sheet.specs.declared.Place.the-variants.{Register}
-use Rattle.sheet.specs.Multiply.{mulu, mul, multiply}
-use Rattle.sheet.specs.World.{World}
-use Rattle.sheet.specs.Act.{Act, pure}
-use Rattle.sheet.specs.Handler.{nothing}
-use Rattle.sheet.specs.Traps.{untrapped}
-use Rattle.sheet.specs.Contract.{Seen, stops, ends, exec, Ends, OnFile, OnMemory}
-use Rattle.sheet.proofs.Rules.{plus, andThen, no-last, exec-bind, ends-pure}
+use Rattle.sheet.specs.Multiply.{multiply}
+use Rattle.sheet.specs.Contract.{OnFile, OnMemory}
 use Rattle.sheet.proofs.Lifted.{memory-at-most}
 use Rattle.do_block.specs.declared.Portless.{Portless}
 use Rattle.do_block.specs.Portless.{primitiveOf}
 use Rattle.quick_tally.specs.Packed.{busAt, Packs}
-use Rattle.quick_place.specs.Packed.{opOf, rmOf, regOf, segOf, wordOf, primitiveAt, repeatAt, stringAt, convertAt}
+use Rattle.quick_tally.specs.Tries.{Tries}
+use Rattle.quick_place.specs.Packed.{opOf, rmOf, regOf, segOf, wordOf, primitiveAt, repeatAt, stringAt, productAt, convertAt}
 
 -- ---- the fields
 
@@ -99,6 +96,23 @@ others-adjba (suc (suc (suc (suc (suc (suc (suc (suc k)))))))) a b c d e f g = r
 pub convert-else : (r : ℕ) → (opOf r ≡ 1 → ⊥) → (opOf r ≡ 2 → ⊥) → (opOf r ≡ 3 → ⊥) → (opOf r ≡ 4 → ⊥) → (opOf r ≡ 5 → ⊥) → (opOf r ≡ 6 → ⊥) → (opOf r ≡ 7 → ⊥) → Adjba ≡ convertAt (opOf r)
 convert-else r a b c d e f g = others-adjba (opOf r) a b c d e f g
 
+module _ (r m : ℕ) (w : Bool) (wide : w ≡ wordOf r) (register : m ≡ rmOf r) where
+  pub product-at : (k : ℕ) (i : Multiply) → opOf r ≡ k → i ≡ getD (Mulu w (Register m) ∷ Mul w (Register m) ∷ Divu w (Register m) ∷ Div w (Register m) ∷ []) k (Mulu w (Register m))
+      → i ≡ productAt (opOf r) (wordOf r) (Register (rmOf r))
+  unfolding productAt
+  product-at k i e h = rw (e, ← wide, ← register) h
+
+  others-mulu : (k : ℕ) → (k ≡ 1 → ⊥) → (k ≡ 2 → ⊥) → (k ≡ 3 → ⊥) → Mulu w (Register m) ≡ productAt k w (Register m)
+  unfolding productAt
+  others-mulu zero a b c = refl
+  others-mulu (suc zero) a b c = absurd (a refl)
+  others-mulu (suc (suc zero)) a b c = absurd (b refl)
+  others-mulu (suc (suc (suc zero))) a b c = absurd (c refl)
+  others-mulu (suc (suc (suc (suc k)))) a b c = refl
+
+  pub product-else : (opOf r ≡ 1 → ⊥) → (opOf r ≡ 2 → ⊥) → (opOf r ≡ 3 → ⊥) → Mulu w (Register m) ≡ productAt (opOf r) (wordOf r) (Register (rmOf r))
+  product-else a b c = rw (← wide, ← register) (others-mulu (opOf r) a b c)
+
 -- ---- what they do
 
 pub block-is : (r start n s : ℕ) (w : Bool) (k : Portless) (q : Repeat) (b : Bus) (f g ram ram′ rom : List ℕ) → w ≡ wordOf r → primitiveOf k ≡ primitiveAt (opOf r) → q ≡ repeatAt (regOf r) → s ≡ segOf r
@@ -113,31 +127,6 @@ string-is r n i b f g ram ram′ rom e h p = rw (← e, p .is) h
 pub convert-is : (r : ℕ) (i : Convert) (f g : List ℕ) → i ≡ convertAt (opOf r) → OnFile Unit (convert i) f tt g → OnFile Unit (convert (convertAt (opOf r))) f tt g
 convert-is r i f g e h = rw (← e) h
 
-one-seen : {a b : Bool} {u v : World} {m n : Bus} → ends a u m ≡ ends b v n → (u ≡ v) × (m ≡ n)
-one-seen e = (cc, cc)
-
--- what an instruction does that takes no trap, whatever it hands on
-module _ (p : Act Unit) where
-  ends-bare : (w v : World) (b : Bool) (n : Bus) → Ends Bool (untrapped p) w b v n → Ends Unit p w tt v n
-  unfolding untrapped
-  ends-bare w v b n h = record { is = go (exec p w) (sym (exec-bind p (λ _. pure false) w) ∙ h .is) }
-    where
-      go : (o : Seen Unit) → andThen o (λ a u. exec (pure false) u) ≡ ends b v n → o ≡ ends tt v n
-      go (stops k) e = cc
-      go (ends a u m) e =
-          let x : exec (pure false) u ≡ ends false u nothing = ends-pure .is in
-          let (y, z) = one-seen (rw x at e) in
-          let l : m ≡ n = sym (no-last m) ∙ z in
-          rw (y, l)
-
-  bare : (f ram rom g ram′ : List ℕ) (b : Bool) (n : Bus) (t : ℕ) → OnMemory Bool (untrapped p) f ram rom b g ram′ n t → OnMemory Unit p f ram rom tt g ram′ n t
-  bare f ram rom g ram′ b n t h = record { most = h .most; fair = h .fair; at = λ s tape log. ends-bare _ _ b n (h .at s tape log) }
-
-module _ (r n m : ℕ) (w t : Bool) (b : Bus) (f g ram ram′ rom : List ℕ) (wide : w ≡ wordOf r) (register : m ≡ rmOf r) (packed : Packs b n) where
-  pub mulu-is : OnMemory Bool (multiply (Mulu w (Register m))) f ram rom t g ram′ b 10 → OnMemory Unit (mulu (wordOf r) (Register (rmOf r))) f ram rom tt g ram′ (busAt n) 384
-  unfolding multiply
-  mulu-is h = rw (← wide, ← register, packed .is) (memory-at-most {t = 10} 384 (lit≤ tt) (bare (mulu w (Register m)) f ram rom g ram′ t b 10 h))
-
-  pub mul-is : OnMemory Bool (multiply (Mul w (Register m))) f ram rom t g ram′ b 10 → OnMemory Unit (mul (wordOf r) (Register (rmOf r))) f ram rom tt g ram′ (busAt n) 384
-  unfolding multiply
-  mul-is h = rw (← wide, ← register, packed .is) (memory-at-most {t = 10} 384 (lit≤ tt) (bare (mul w (Register m)) f ram rom g ram′ t b 10 h))
+pub multiply-is : (r n : ℕ) (i : Multiply) (t : Bool) (b : Bus) (f g ram ram′ rom : List ℕ) → i ≡ productAt (opOf r) (wordOf r) (Register (rmOf r)) → OnMemory Bool (multiply i) f ram rom t g ram′ b 10 → Packs b n
+    → Tries (multiply (productAt (opOf r) (wordOf r) (Register (rmOf r)))) f ram rom g ram′ n 384
+multiply-is r n i t b f g ram ram′ rom e h p = record { trapped = t; does = rw (← e, p .is) (memory-at-most {t = 10} 384 (lit≤ tt) h) }

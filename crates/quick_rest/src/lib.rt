@@ -1,4 +1,4 @@
-// What readings do by the functions that the general path has for them: blocks, decimal strings, conversions, products.
+// What readings do by the functions that the general path has for them: blocks, decimal strings, conversions, products, quotients.
 use do_block::Portless;
 use sheet::Convert;
 use sheet::Decimal;
@@ -10,12 +10,13 @@ ghost use Rattle.sheet.specs.Block.{block as blockOf};
 ghost use Rattle.sheet.specs.Convert.{convert as convertOf};
 ghost use Rattle.sheet.specs.Decimal.{decimal};
 ghost use Rattle.sheet.specs.declared.Place.the-variants.{Register};
-ghost use Rattle.sheet.specs.Multiply.{mulu as muluOf, mul as mulOf};
+ghost use Rattle.sheet.specs.Multiply.{multiply as multiplyOf};
 ghost use Rattle.sheet.specs.Contract.{OnFile};
 ghost use Rattle.mach_tally.specs.Lent.{Does};
 ghost use Rattle.do_block.specs.Portless.{primitiveOf};
 ghost use Rattle.quick_tally.specs.Packed.{busAt};
-ghost use Rattle.quick_place.specs.Packed.{opOf, rmOf, regOf, segOf, wordOf, primitiveAt, repeatAt, stringAt, convertAt};
+ghost use Rattle.quick_tally.specs.Tries.{TriesOn};
+ghost use Rattle.quick_place.specs.Packed.{opOf, rmOf, regOf, segOf, wordOf, primitiveAt, repeatAt, stringAt, productAt, convertAt};
 
 fn primitive_of(r: u64) -> Portless
     ensures { λ x. ⌜ primitiveOf x ≡ primitiveAt (opOf r) ⌝ }
@@ -101,22 +102,24 @@ pub fn convert(file: &mut [u16; 14], r: u64)
     do_convert::convert(file, i);
 }
 
-// Kind 35: MULU reg.
-pub fn mulu(file: &mut [u16; 14], ram: &mut [u8], rom: &[u8], r: u64) -> u64
-    ensures { λ n. ⌜ Does (muluOf (wordOf r) (Register (rmOf r))) file ram rom (busAt n) 384 ⌝ }
+fn multiply_of(r: u64) -> Multiply
+    ensures { λ x. ⌜ x ≡ productAt (opOf r) (wordOf r) (Register (rmOf r)) ⌝ }
 {
     let word = quick_do::word_of(r);
     let by = Place::Register(quick_do::rm_of(r));
-    let x = do_multiply::multiply(file, ram, rom, Multiply::Mulu { word, by });
-    quick_tally::of_bus(x.bus)
+    match r / 1048576 % 8 {
+        1 => Multiply::Mul { word, by },
+        2 => Multiply::Divu { word, by },
+        3 => Multiply::Div { word, by },
+        _ => Multiply::Mulu { word, by },
+    }
 }
 
-// Kind 36: MUL reg.
-pub fn mul(file: &mut [u16; 14], ram: &mut [u8], rom: &[u8], r: u64) -> u64
-    ensures { λ n. ⌜ Does (mulOf (wordOf r) (Register (rmOf r))) file ram rom (busAt n) 384 ⌝ }
+// Kind 35: MULU, MUL, DIVU, DIV with a register.
+pub fn multiply(file: &mut [u16; 14], ram: &mut [u8], rom: &[u8], r: u64) -> u64
+    ensures { λ n. ⌜ TriesOn (multiplyOf (productAt (opOf r) (wordOf r) (Register (rmOf r)))) file ram rom n 384 ⌝ }
 {
-    let word = quick_do::word_of(r);
-    let by = Place::Register(quick_do::rm_of(r));
-    let x = do_multiply::multiply(file, ram, rom, Multiply::Mul { word, by });
+    let i = multiply_of(r);
+    let x = do_multiply::multiply(file, ram, rom, i);
     quick_tally::of_bus(x.bus)
 }

@@ -25,7 +25,6 @@ use Rattle.sheet.specs.Stack.{popIn}
 use Rattle.sheet.specs.FirstByte.{instruction}
 use Rattle.sheet.specs.Execute.{operation, execute}
 use Rattle.sheet.specs.Step.{codeByte, movesIn, loadsSegment}
-use Rattle.sheet.specs.Contract.{OnMemory}
 use Rattle.sheet.proofs.Rules.{no-last}
 use Rattle.mach_tally.specs.Bounds.{Within}
 use Rattle.mach_tally.proofs.Bounds.{within-memory}
@@ -41,6 +40,7 @@ use Rattle.step_answer.specs.Steps.{Advances}
 use Rattle.step_answer.specs.declared.Advanced.{Advanced}
 use Rattle.engine.proofs.Laws.{advances-known}
 use Rattle.quick_tally.specs.Packed.{busAt, Packs}
+use Rattle.quick_tally.specs.Tries.{Tries}
 use Rattle.quick_tally.proofs.Laws.{fits-above}
 use Rattle.quick_place.specs.Packed.{kindOf, sizeOf}
 use Rattle.quick_pack.specs.Readings.{readings, further, rest, portReadings, atPort, groups, instrOf}
@@ -94,7 +94,7 @@ each-further r = more refl (more refl (more refl (more refl (more refl (more ref
 
 each-rest : (r : ℕ) → Plain (rest r)
 unfolding rest loadsSegment movesIn movIn
-each-rest r = more refl (more refl (more refl (more refl (more refl (more refl (more refl (more refl (more refl (more refl (more refl (more refl (more refl (more refl none)))))))))))))
+each-rest r = more refl (more refl (more refl (more refl (more refl (more refl (more refl (more refl (more refl (more refl (more refl (more refl (more refl none))))))))))))
 
 each-port : (r : ℕ) → Plain (portReadings r)
 unfolding portReadings loadsSegment
@@ -122,15 +122,15 @@ loads-none r = plain-at (in-group r (kindOf r / 16)) (kindOf r % 16)
 module _ (i : Instr) (size : ℕ) (f ram rom tape log : List ℕ) (m : Marks) (q : Progress) (awake : m .halted ≡ false) (closed : m .writable ≡ false) (plain : loadsSegment i ≡ false) (untraced : flagOf (getD f PSW 0) BRK ≡ false)
     (native : nativeOf (getD f PSW 0) ≡ true) (d : Decodes instruction (codeByte ram rom (getD f PS 0) (getD f PC 0)) 0 (Known i size)) where
   -- done
-  pub performed : (g ram′ log′ : List ℕ) (q′ : Progress) (n : Bus) (number : ℕ) → number ≡ 0
-      → Performs (execute i size) f ram rom tape log (marksOf false false false) (begunAt q) number false (marksOf false false false) g ram′ log′ q′ n
+  pub performed : (trapped : Bool) (g ram′ log′ : List ℕ) (q′ : Progress) (n : Bus) (number : ℕ) → number ≡ 0
+      → Performs (execute i size) f ram rom tape log (marksOf false false false) (begunAt q) number trapped (marksOf false false false) g ram′ log′ q′ n
       → Advances (stateOf f m q) ram rom tape log true 0 (stateOf g (marksOf false false false) q′) ram′ log′ n
-  performed g ram′ log′ q′ n number z p =
+  performed trapped g ram′ log′ q′ n number z p =
       advances-known f m q ram rom tape log awake (Known i size) (record { is = rw native d }) i size (record { done = true; number = 0; marks = marksOf false false false; progress = q′; bus = n }) g ram′ log′ refl
       (record {
         told = refl;
         does =
-            proceeds-done i size f g ram ram′ rom tape log log′ m (marksOf false false false) (marksOf false false false) q (begunAt q) q′ number false false n (rw untraced) (rw (awake, plain, closed)) refl p
+            proceeds-done i size f g ram ram′ rom tape log log′ m (marksOf false false false) (marksOf false false false) q (begunAt q) q′ number false trapped n (rw untraced) (rw (awake, plain, closed)) refl p
             0 (marksOf false false false) q′ g ram′ n
             (record { zero = refl; places = refl; last = nothing; sum = record { is = sym (no-last n); cycles = omega arith; dropped = omega arith }; finish = finishes-untraced false (marksOf false false false) g ram′ rom nothing refl (record { is = refl }) })
             z;
@@ -155,15 +155,15 @@ turned : (f g p p′ ram ram′ rom tape log log′ : List ℕ) (m : Marks) (q :
     → Holds p′ m q → x ≡ 256 + n → Turns f p ram rom tape log x g p′ ram′ log′
 turned f g p p′ ram ram′ rom tape log log′ m q x n a h e = rw e (record { lent = h .lent; does = rw (above n, number-done n, cost-done n, h .marks, h .progress) a })
 
-pub turns-quick : (f g p p′ ram ram′ rom tape log : List ℕ) (r x n : ℕ) → Ready f p ram rom r → (r ≡ 0 → ⊥) → OnMemory Bool (execute (instrOf r) (sizeOf r)) f ram rom false g ram′ (busAt n) 1020
+pub turns-quick : (f g p p′ ram ram′ rom tape log : List ℕ) (r x n : ℕ) → Ready f p ram rom r → (r ≡ 0 → ⊥) → Tries (execute (instrOf r) (sizeOf r)) f ram rom g ram′ n 1020
     → Holds p′ (marksOf false false false) (begunAt (progressAt p)) → x ≡ 256 + n → Turns f p ram rom tape log x g p′ ram′ log
 turns-quick f g p p′ ram ram′ rom tape log r x n y z o h e =
     turned f g p p′ ram ram′ rom tape log log (marksOf false false false) (begunAt (progressAt p)) x n
-    (performed (instrOf r) (sizeOf r) f ram rom tape log (marksAt p) (progressAt p) (y .awake z) (y .closed z) (loads-none r) (y .untraced z) (y .native z) (y .reads z) g ram′ log (begunAt (progressAt p)) (busAt n) 0 refl
-    (record { most = within-memory o; done = λ u. o .at (stateOf f (marksOf false false false) (begunAt (progressAt p))) tape log; stop = λ u. absurd (u refl); same = λ u. absurd (u refl) })) h e
+    (performed (instrOf r) (sizeOf r) f ram rom tape log (marksAt p) (progressAt p) (y .awake z) (y .closed z) (loads-none r) (y .untraced z) (y .native z) (y .reads z) (o .trapped) g ram′ log (begunAt (progressAt p)) (busAt n) 0 refl
+    (record { most = within-memory (o .does); done = λ u. o .does .at (stateOf f (marksOf false false false) (begunAt (progressAt p))) tape log; stop = λ u. absurd (u refl); same = λ u. absurd (u refl) })) h e
 
-pub quick-fits : (i : Instr) (size : ℕ) (f g ram ram′ rom : List ℕ) (n : ℕ) → OnMemory Bool (execute i size) f ram rom false g ram′ (busAt n) 1020 → 256 + n < 18446744073709551616
-quick-fits i size f g ram ram′ rom n p = fits-above n (within-memory p) (lit≤ tt)
+pub quick-fits : (i : Instr) (size : ℕ) (f g ram ram′ rom : List ℕ) (n : ℕ) → Tries (execute i size) f ram rom g ram′ n 1020 → 256 + n < 18446744073709551616
+quick-fits i size f g ram ram′ rom n p = fits-above n (within-memory (p .does)) (lit≤ tt)
 
 module _ (f g p ram ram′ rom tape log log′ : List ℕ) (m : Marks) (q : Progress) (a : Advanced) (marks : m ≡ marksAt p) (progress : q ≡ progressAt p)
     (d : Advances (stateOf f m q) ram rom tape log (a .done) (a .number) (stateOf g (a .marks) (a .progress)) ram′ log′ (a .bus)) where
@@ -216,7 +216,7 @@ module _ (f g p p′ ram ram′ rom tape log log′ : List ℕ) (r x count start
         lent = h .lent;
         does =
             rw (le-leb 256 x l, n, h .marks, h .progress)
-            (performed (instrOf r) (sizeOf r) f ram rom tape log (marksAt p) (progressAt p) (y .awake z) (y .closed z) (loads-none r) (y .untraced z) (y .native z) (y .reads z) g ram′ log′ (o .places) (costOf x) (numberOf x) n
+            (performed (instrOf r) (sizeOf r) f ram rom tape log (marksAt p) (progressAt p) (y .awake z) (y .closed z) (loads-none r) (y .untraced z) (y .native z) (y .reads z) false g ram′ log′ (o .places) (costOf x) (numberOf x) n
             (launches-done (instrOf r) (sizeOf r) start next f g ram ram′ rom tape log log′ (marksOf false false false) (marksOf false false false) (begunAt (progressAt p)) (o .places) (numberOf x) false (costOf x) a d operates n));
       }
 

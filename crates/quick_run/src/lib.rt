@@ -2,6 +2,7 @@
 mod step;
 pub mod taken;
 
+use mach_registers::PC;
 use sheet::State;
 use step_answer::Ran;
 ghost use mathlib.Core.Path.{_≡_};
@@ -43,8 +44,9 @@ fn go_on(s: State, ram: &mut [u8], rom: &[u8], tape: &[u8], log: &mut [u8], budg
     let mut steps: u16 = 0;
     let mut total = quick_tally::none();
     while steps < budget {
-        let r = step::next(&file, &stand, &mut memo, ram, rom);
-        let x = step::turn(&mut file, &mut stand, ram, rom, tape, log, r);
+        let pc = calc_word::word(file[PC]);
+        let r = step::next(&file, &stand, &mut memo, ram, rom, pc);
+        let x = step::turn(&mut file, &mut stand, ram, rom, tape, log, r, pc);
         if x < 256 {
             let state = state_of(file, &stand);
             let bus = quick_tally::bus(total);

@@ -1,9 +1,12 @@
-// One step of the quicker run: by a reading where there is one, else by the general path.
+// One step of the quicker run: by a reading where there is one, else by the general path. PC is handed on as a number: read again, it would
+// be loaded together with PSW, and that load waits for the stores of both.
 use mach_registers::PC;
 use mach_registers::PS;
 use mach_registers::PSW;
 ghost use mathlib.Core.Path.{_≡_};
 ghost use mathlib.Core.Bool.{true};
+ghost use lib.ListN.{getD};
+ghost use Rattle.sheet.specs.Registers.{PC};
 ghost use Rattle.quick_pack.specs.Readings.{atPort};
 ghost use Rattle.quick_reading.specs.Readings.{Remembers};
 ghost use Rattle.quick_stand.specs.Stand.{Lent};
@@ -17,8 +20,9 @@ pub fn next(
     memo: &mut [u64; 2048],
     ram: &[u8],
     rom: &[u8],
+    pc: u16,
 ) -> u64
-    requires { ⌜ Remembers (now memo) ⌝ }
+    requires { ⌜ Remembers (now memo) × (pc ≡ getD (now file) PC 0) ⌝ }
     ensures { λ r. ⌜ ReadyOn file stand ram rom r × Remembers (now (memo .exit)) ⌝ }
 {
     if stand[3] > 1 {
@@ -30,7 +34,6 @@ pub fn next(
         return 0;
     }
     let ps = file[PS];
-    let pc = calc_word::word(file[PC]);
     let w = quick_window::window(ram, rom, ps, pc);
     quick_reading::recall(memo, pc, w)
 }
@@ -44,12 +47,16 @@ fn reach(
     tape: &[u8],
     log: &mut [u8],
     r: u64,
+    start: u16,
 ) -> u64
-    requires { ⌜ Lent (now stand) × Ready (now file) (now stand) (now ram) (now rom) r × (r ≡ 0 → ⊥) × (atPort r ≡ true) ⌝ }
+    requires { ⌜ Lent (now stand)
+        × Ready (now file) (now stand) (now ram) (now rom) r
+        × (r ≡ 0 → ⊥)
+        × (atPort r ≡ true)
+        × (start ≡ getD (now file) PC 0) ⌝ }
     ensures { λ x. ⌜ TurnsOn file stand ram rom tape log x ⌝ }
 {
     let count = step_end::count_on(stand[2] as u32);
-    let start = file[PC];
     file[PC] = calc_word::plus16(start, (r / 256 % 16) as u16);
     let x = quick_stream::access(file, ram, rom, tape, log, stand, count, r, start);
     if x < 256 {
@@ -91,15 +98,16 @@ pub fn turn(
     tape: &[u8],
     log: &mut [u8],
     r: u64,
+    start: u16,
 ) -> u64
-    requires { ⌜ Lent (now stand) × Ready (now file) (now stand) (now ram) (now rom) r ⌝ }
+    requires { ⌜ Lent (now stand) × Ready (now file) (now stand) (now ram) (now rom) r × (start ≡ getD (now file) PC 0) ⌝ }
     ensures { λ x. ⌜ TurnsOn file stand ram rom tape log x ⌝ }
 {
     if r != 0 {
         if quick_pack::at_port(r) {
-            return reach(file, stand, ram, rom, tape, log, r);
+            return reach(file, stand, ram, rom, tape, log, r, start);
         }
-        let n = quick_perform::perform(file, ram, rom, r);
+        let n = quick_perform::perform(file, ram, rom, r, start);
         quick_stand::begin(stand);
         return 256 + n;
     }

@@ -1,4 +1,5 @@
-use Rattle.quick_perform.proofs.Laws.{rest-file, rest-memory, rest-else}
+use Rattle.quick_perform.proofs.Laws.{rest-file, rest-memory, rest-tries, rest-else}
+use mathlib.Core.Path.{refl}
 use borrow.Author.Needs.{needs}
 use Rattle.quick_perform.proofs.rest.Statement.{statement}
 use Rattle.quick_perform.proofs.rest.Tie as tie
@@ -13,10 +14,10 @@ returns-3 : tie.Need-returns-3
 returns-3 c = search (rest-file, needs)
 
 returns-4 : tie.Need-returns-4
-returns-4 c = search (rest-memory, needs)
+returns-4 c = search (rest-tries, needs)
 
 returns-5 : tie.Need-returns-5
-returns-5 c = search (rest-memory, needs)
+returns-5 c = search (rest-file, needs)
 
 returns-6 : tie.Need-returns-6
 returns-6 c = search (rest-memory, needs)
@@ -43,16 +44,12 @@ returns-13 : tie.Need-returns-13
 returns-13 c = search (rest-file, needs)
 
 returns-14 : tie.Need-returns-14
-returns-14 c = search (rest-file, needs)
-
-returns-15 : tie.Need-returns-15
-returns-15 c = search (rest-else, needs)
+returns-14 c = search (rest-else, needs)
 
 pub rest-spec : {M : Type 1} → statement M
 rest-spec =
     tie.close
     (tie.spec
-    (λ c κs. search needs)
     (λ c κs. search needs)
     (λ c κs. search needs)
     (λ c κs. search needs)
@@ -73,7 +70,6 @@ rest-spec =
     returns-3
     (λ c. search needs)
     returns-4
-    (λ c. search needs)
     returns-5
     (λ c. search needs)
     returns-6
@@ -85,5 +81,4 @@ rest-spec =
     returns-11
     returns-12
     returns-13
-    returns-14
-    returns-15)
+    returns-14)

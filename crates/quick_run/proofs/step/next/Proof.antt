@@ -24,8 +24,6 @@ next-spec =
     (λ c κs. search needs)
     returns-2
     (λ c. search needs)
-    (λ c. search needs)
-    (λ c κs. search needs)
     (λ c κs. search needs)
     (λ c κs. search needs)
     returns-3)

@@ -4,10 +4,10 @@ use Rattle.quick_run.proofs.step.turn.Statement.{statement}
 use Rattle.quick_run.proofs.step.turn.Tie as tie
 
 reach-requires : tie.Need-reach-requires
-reach-requires c κs = (search needs, search needs, search needs, search (tested, needs))
+reach-requires c κs = (search needs, search needs, search needs, search (tested, needs), search needs)
 
 perform-requires : tie.Need-perform-requires
-perform-requires c κs = search (tested, needs)
+perform-requires c κs = (search (tested, needs), search needs)
 
 add-result : tie.Need-add-result
 add-result c = search (quick-fits, needs)
