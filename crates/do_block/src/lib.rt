@@ -13,7 +13,7 @@ ghost use Rattle.sheet.specs.Arithmetic.{difference};
 ghost use Rattle.sheet.specs.Block as tree;
 ghost use Rattle.sheet.specs.Contract.{OnFile};
 ghost use Rattle.mach_tally.specs.Lent.{Does};
-ghost use Rattle.do_block.specs.Portless.{primitiveOf};
+ghost use Rattle.do_block.specs.Portless.{primitiveOf, isNothing, isElement};
 
 // The flags of a comparison.
 fn compare(word: bool, file: &mut [u16; 14], a: u16, b: u16)
@@ -112,25 +112,28 @@ fn primitive(
     }
 }
 
-fn element(
-    file: &mut [u16; 14],
-    ram: &mut [u8],
-    rom: &[u8],
-    kind: Portless,
-    word: bool,
-    seg: u8,
-    repeat: Repeat,
-    start: u16,
-) -> Bus
-    ensures { λ r. ⌜ Does (tree.element (primitiveOf kind) word seg repeat start) file ram rom r 4 ⌝ }
+fn is_nothing(due: Due) -> bool
+    ensures { λ r. ⌜ r ≡ isNothing due ⌝ }
 {
-    let b = primitive(file, ram, rom, kind, word, seg);
-    let k = named(kind);
-    mach_element::finish_element(file, k, repeat, start);
-    b
+    match due {
+        Due::Nothing => true,
+        Due::Single => false,
+        Due::Element => false,
+    }
 }
 
-// One element of an instruction whose first prefix is at the offset `start`.
+fn is_element(due: Due) -> bool
+    ensures { λ r. ⌜ r ≡ isElement due ⌝ }
+{
+    match due {
+        Due::Nothing => false,
+        Due::Single => false,
+        Due::Element => true,
+    }
+}
+
+// One element of an instruction whose first prefix is at the offset `start`. One call of the primitive, so that it is built in: each call
+// more copies the slices that it is lent.
 pub fn block(
     file: &mut [u16; 14],
     ram: &mut [u8],
@@ -144,9 +147,13 @@ pub fn block(
     ensures { λ r. ⌜ Does (tree.block (primitiveOf kind) word seg repeat start) file ram rom r 4 ⌝ }
 {
     let due = mach_element::what_is_due(file[CW], repeat);
-    match due {
-        Due::Nothing => mach_tally::none(),
-        Due::Single => primitive(file, ram, rom, kind, word, seg),
-        Due::Element => element(file, ram, rom, kind, word, seg, repeat, start),
+    if is_nothing(due) {
+        return mach_tally::none();
     }
+    let b = primitive(file, ram, rom, kind, word, seg);
+    if is_element(due) {
+        let k = named(kind);
+        mach_element::finish_element(file, k, repeat, start);
+    }
+    b
 }
