@@ -1,7 +1,7 @@
 // Readings: the instruction of a window of code bytes as one number, and the memo of readings.
 use code_answer::Decoded;
 ghost use mathlib.Core.Path.{_≡_};
-ghost use Prim.Native.Nat.{_<_};
+ghost use Prim.Native.Nat.{_/_, _%_, _<_};
 ghost use Rattle.quick_reading.specs.Readings.{bytesOf, Means, Remembers};
 
 fn bytes(w: u64) -> [u8; 8]
@@ -19,10 +19,22 @@ fn bytes(w: u64) -> [u8; 8]
     ]
 }
 
+// MOV reg16,imm16 without the decoder: a program that writes over its own operands writes over this one's most.
+fn load_word(w: u64) -> u64
+    requires { ⌜ w % 256 / 8 ≡ 0x17 ⌝ }
+    ensures { λ r. ⌜ Means w r ⌝ }
+{
+    let value = (w / 256 % 65536) as u16;
+    quick_place::join(7, 3, (w % 8) as u8, 0, 0, 0, true, 0, value)
+}
+
 // By the decoder, which finds the window at address 0.
 fn read(w: u64) -> u64
     ensures { λ r. ⌜ Means w r ⌝ }
 {
+    if w % 256 / 8 == 0x17 {
+        return load_word(w);
+    }
     let code = bytes(w);
     let d = code_decode::decode(&code, &code, 0, 0);
     match d {
