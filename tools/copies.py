@@ -1,7 +1,8 @@
 """Functions of a crate under a second name, for tools/refusals.
 
 A copy stands behind the functions of its file and has the contract and the proof of the one that it was copied from. Nothing calls it, so that
-a wrong copy fails alone, and copies with different edits can be tried in one check.
+a wrong copy fails alone, copies with different edits can be tried in one check, and no caller is proved anew. What is proved of a function
+is proved of its copy, but for the name: only functions whose proof can be copied under another name are.
 """
 import os
 import re
@@ -19,7 +20,7 @@ def home(root, edit):
         plain = file.startswith('src/') and not re.search(r'/\*|^ *(pub )?mod \w+ \{', text, re.M)
         homes.add((file, around(text, at, old) if plain else None))
     file, function = homes.pop() if len(homes) == 1 else (None, None)
-    return (file, function) if function and not in_cycle(root, function) else None
+    return (file, function) if function and not in_cycle(root, function) and has_own_proof(root, module(file), function) else None
 
 
 def module(file):
@@ -33,12 +34,25 @@ def in_cycle(root, function):
     return any(function in re.findall(r'\w+', name) for _, names, _ in os.walk(f'{root}/proofs') for name in names if name.startswith('+'))
 
 
-def add(root, file, function, name, edit=None):
+def has_own_proof(root, steps, function):
+    """whether nothing but the function's own proof names its modules, and that by their whole paths: then the proof is a copy's too"""
+    folder, path = '/'.join([f'{root}/proofs', *steps, function]), ['proofs', *steps, function]
+    for below, _, files in os.walk(f'{root}/proofs'):
+        for text in (read(f'{below}/{file}') for file in files):
+            for named in re.findall(r'Rattle·\w+·proofs\.([^\s;,(){}]+)', text):
+                named = named.rstrip('.').split('.')
+                above, inside = path[:len(named)] == named and named != path, named[:len(path)] == path
+                if above or inside and not f'{below}/'.startswith(f'{folder}/'):
+                    return False
+    return True
+
+
+def add(root, file, function, name, edit):
     """adds to the crate in root a copy of a function under the name, with the edit"""
     text = read(f'{root}/{file}')
     begins, ends = next((begins, ends) for known, begins, _, ends in functions(text) if known == function)
     copy = text[begins:ends]
-    for _, old, new in replacements(edit) if edit else []:
+    for _, old, new in replacements(edit):
         if copy.count(old) != 1:
             raise BadEdit(f"an 'old:' text stands not once in {file}")
         copy = copy.replace(old, new)

@@ -171,10 +171,6 @@ class Pieces:
         found = [self.witnesses(mine, set().union(*changes[:n], *changes[n + 1:])) for n, mine in enumerate(changes)]
         return found if all(self.likely(mine, witnesses) for mine, witnesses in zip(changes, found)) else None
 
-    def proved_in(self, text):
-        """the functions that the prover's text says are proved"""
-        return {f'fn {function}' for function in re.findall(rf'^fn {self.name}::(?:\w+::)*(\w+): proved', text, re.M)}
-
     def failed_in(self, text, where):
         """the pieces that the prover's text has an error of, the crate being in the folder where"""
         named = re.findall(rf'^fn {self.name}::(?:\w+::)*(\w+): (?:not proved|no proof)', text, re.M)
