@@ -1,4 +1,6 @@
 // The decoder: prefixes, and the instruction that follows them.
+mod first;
+
 use code_answer::Decoded;
 ghost use Rattle.code_answer.specs.Lent.{lentCode};
 ghost use Rattle.sheet.specs.FirstByte.{instruction};
@@ -13,5 +15,5 @@ pub fn decode(ram: &[u8], rom: &[u8], ps: u16, pc: u16) -> Decoded
         return Decoded::Unknown { number: 4 };
     }
     let prefixes = s.prefixes;
-    code_first::first(ram, rom, ps, pc, prefixes, s.byte, s.next)
+    first::first(ram, rom, ps, pc, prefixes, s.byte, s.next)
 }

@@ -20,7 +20,7 @@ use Rattle.sheet.specs.Contract.{Ends, Stops}
 use Rattle.sheet.proofs.Rules.{seq, seq-stops, seq-then-stops, seq-flag, seq-registers, seq-set, ends-flag, ends-registers, ends-set}
 use Rattle.mach_tally.specs.Sums.{Free}
 use Rattle.mach_tally.proofs.Bounds.{within-free, within-both}
-use Rattle.step_execute.specs.Performs.{Performs}
+use Rattle.engine.specs.Performs.{Performs}
 use Rattle.step_end.specs.Finishes.{begunAt}
 use Rattle.engine.specs.Proceeds.{Settles, Proceeds}
 

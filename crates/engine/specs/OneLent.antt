@@ -6,7 +6,7 @@ use Rattle.sheet.specs.declared.Marks.{Marks}
 use Rattle.sheet.specs.declared.Progress.{Progress}
 use Rattle.sheet.specs.declared.Instr.{Instr}
 use Rattle.mach_tally.specs.Lent.{Lent}
-use Rattle.step_execute.specs.declared.Performed.{Performed}
+use Rattle.engine.specs.declared.execute.Performed.{Performed}
 use Rattle.engine.specs.declared.one.Stepped.{Stepped}
 use Rattle.engine.specs.Proceeds.{Settles, Proceeds}
 

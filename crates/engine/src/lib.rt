@@ -1,5 +1,7 @@
 // The public calls step and run, and what both are once the checks that every call makes are passed.
+pub mod execute;
 pub mod one;
+mod plain;
 
 use code_answer::Decoded;
 use mach_registers::PC;

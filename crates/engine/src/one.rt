@@ -1,15 +1,15 @@
 // One instruction of a machine that is awake: what it does, the single-step trap, and the count.
+use super::execute::Performed;
 use mach_registers::PC;
 use mach_registers::PSW;
 use sheet::Bus;
 use sheet::Instr;
 use sheet::Marks;
 use sheet::Progress;
-use step_execute::Performed;
 ghost use Rattle.engine.specs.OneLent.{SettlesOn, ProceedsOn};
 ghost use Rattle.sheet.specs.Execute.{execute};
 ghost use Rattle.mach_tally.specs.Bounds.{Within};
-ghost use Rattle.step_execute.specs.Lent.{PerformsOn};
+ghost use Rattle.engine.specs.ExecuteLent.{PerformsOn};
 
 // What came of an instruction: its number, and where it is not refused the marks, the places and the bus.
 pub struct Stepped {
@@ -52,7 +52,7 @@ fn launch(
 {
     let start = file[PC];
     file[PC] = calc_word::plus16(start, size);
-    let p = step_execute::perform(file, ram, rom, tape, log, m, q, i, start);
+    let p = super::execute::perform(file, ram, rom, tape, log, m, q, i, start);
     if p.number != 0 {
         file[PC] = start;
     }

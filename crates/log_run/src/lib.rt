@@ -26,17 +26,11 @@ fn print(log: &[u8], rule: GapRule) {
     }
 }
 
-// Whether standard input stands at its end: a failed read answers less than 0, and `read_full` does not tell the two apart.
-fn at_end() -> bool {
-    let mut more = [0; 1];
-    libc::read(STDIN_FILENO, &mut more) == 0
-}
-
 // Prints the listing of the log on standard input.
 pub fn run(rule: GapRule) {
     let mut input = input_buffer();
     let n = io::read_full(STDIN_FILENO, &mut input);
-    if n == 65537 || at_end() {
+    if n == 65537 || base_input::at_end() {
         print(&input[..n], rule);
     } else {
         write_all(STDERR_FILENO, b"listlog: cannot read the input\n");

@@ -1,4 +1,7 @@
 // A reading done, by its kind.
+mod general;
+mod rarer;
+
 use mach_registers::PC;
 ghost use mathlib.Core.Path.{_≡_};
 ghost use mathlib.Core.Bool.{false};
@@ -97,41 +100,41 @@ fn rest(file: &mut [u16; 14], ram: &mut [u8], rom: &[u8], r: u64, start: u16) ->
     ensures { λ n. ⌜ TriesOn (restTree r start) file ram rom n 384 ⌝ }
 {
     match r % 256 % 16 {
-        0 => quick_rest::block(file, ram, rom, r, start),
-        1 => quick_rest::string(file, ram, rom, r),
+        0 => general::block(file, ram, rom, r, start),
+        1 => general::string(file, ram, rom, r),
         2 => {
-            quick_rest::convert(file, r);
+            general::convert(file, r);
             0
         }
-        3 => quick_rest::multiply(file, ram, rom, r),
+        3 => general::multiply(file, ram, rom, r),
         4 => {
-            quick_more::bcwz(file, r);
+            rarer::bcwz(file, r);
             0
         }
-        5 => quick_more::shift_r(file, ram, rom, r),
-        6 => quick_more::shift_m(file, ram, rom, r),
+        5 => rarer::shift_r(file, ram, rom, r),
+        6 => rarer::shift_m(file, ram, rom, r),
         7 => {
-            quick_more::ldea(file, r);
+            rarer::ldea(file, r);
             0
         }
         8 => {
-            quick_more::xch(file, r);
+            rarer::xch(file, r);
             0
         }
         9 => {
-            quick_more::from_segment(file, r);
+            rarer::from_segment(file, r);
             0
         }
         10 => {
-            quick_more::br_far(file, r);
+            rarer::br_far(file, r);
             0
         }
         11 => {
-            quick_more::dbnzne(file, r);
+            rarer::dbnzne(file, r);
             0
         }
         12 => {
-            quick_more::dbnze(file, r);
+            rarer::dbnze(file, r);
             0
         }
         _ => 0,

@@ -1,4 +1,6 @@
 // Port accesses, IN and OUT, with the places lent as numbers: nothing of an answer goes through memory.
+pub mod stream;
+
 use mach_ports::Put;
 use mach_registers::DW;
 ghost use mathlib.Core.Path.{_≡_};

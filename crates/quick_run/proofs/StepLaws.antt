@@ -30,10 +30,10 @@ use Rattle.mach_tally.specs.Bounds.{Within}
 use Rattle.mach_tally.proofs.Bounds.{within-memory}
 use Rattle.code_answer.specs.declared.Decoded.the-variants.{Known}
 use Rattle.code_answer.specs.Answer.{Decodes}
-use Rattle.step_execute.specs.Performs.{Performs}
+use Rattle.engine.specs.Performs.{Performs}
 use Rattle.step_end.specs.Finishes.{begunAt}
 use Rattle.engine.specs.Proceeds.{Proceeds}
-use Rattle.step_execute.proofs.Laws.{ported-is}
+use Rattle.engine.proofs.ExecuteLaws.{ported-is}
 use Rattle.step_end.proofs.Laws.{finishes-untraced}
 use Rattle.engine.proofs.OneLaws.{launches-done, launches-stop, proceeds-done, proceeds-stop}
 use Rattle.step_answer.specs.Steps.{Advances}
@@ -50,8 +50,8 @@ use Rattle.quick_window.proofs.Laws.{code-decodes}
 use Rattle.quick_stand.specs.Stand.{progressAt, marksAt, Lent, Holds}
 use Rattle.quick_port.specs.Reached.{numberOf, costOf, countedAt, Reaches}
 use Rattle.quick_port.proofs.Answers.{above, number-done, cost-done, number-stop, cost-stop, number-none, refuses}
-use Rattle.quick_stream.specs.Trees.{portTree}
-use Rattle.quick_stream.proofs.Laws.{port-does}
+use Rattle.quick_port.specs.StreamTrees.{portTree}
+use Rattle.quick_port.proofs.StreamLaws.{port-does}
 use Rattle.quick_run.specs.Ready.{Ready}
 use Rattle.quick_run.specs.Turns.{Turns}
 

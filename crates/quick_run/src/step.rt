@@ -58,7 +58,7 @@ fn reach(
 {
     let count = step_end::count_on(stand[2] as u32);
     file[PC] = calc_word::plus16(start, (r / 256 % 16) as u16);
-    let x = quick_stream::access(file, ram, rom, tape, log, stand, count, r, start);
+    let x = quick_port::stream::access(file, ram, rom, tape, log, stand, count, r, start);
     if x < 256 {
         file[PC] = start;
     }

@@ -12,8 +12,8 @@ use Rattle.rom_form.specs.Listing.{top, sizeAt, lineAt, linesFrom, listing}
 use Rattle.rom_form.proofs.RoundTrip.{Sized, size-at}
 use Rattle.rom_form.proofs.Lines.{line-short, no-lines, line-and-rest, all-lines}
 use Rattle.base_line.specs.Adds.{Holds}
-use Rattle.rom_line.specs.Makes.{Makes}
-use Rattle.rom_line.proofs.Text.{made}
+use Rattle.rom_list.specs.Makes.{Makes}
+use Rattle.rom_list.proofs.LineText.{made}
 use Rattle.rom_list.specs.Lists.{Measures, Puts, Lists, listed, too-long, no-room}
 
 module _ {image line line′ : List ℕ} {a r size : ℕ} (h : a < top) (n : length line ≡ 80) (m : Makes image a line r size line′) where

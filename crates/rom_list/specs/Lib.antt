@@ -1,1 +1,5 @@
 pub mod Lists
+pub mod Makes
+pub mod Restores
+pub mod Agrees
+pub mod Rebuilds

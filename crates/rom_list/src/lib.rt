@@ -1,7 +1,10 @@
 // The listing of a ROM: all its lines, one after the other.
+pub mod line;
+pub mod rebuild;
+
 use base_text::put_bytes;
-use rom_line::Made;
-use rom_line::make_line;
+use line::Made;
+use line::make_line;
 ghost use mathlib.Core.Path.{_≡_};
 ghost use Prim.Native.Nat.{_+_, _≤_, _<_};
 ghost use lib.ListN.{length};
@@ -78,4 +81,9 @@ pub fn list(image: &[u8], out: &mut [u8]) -> Listed
     }
     let len = put_lines(out, image);
     Listed { number: 0, len }
+}
+
+// Room for the longest listing, 80 bytes for each byte of an image, and one more: of a call's result the length is known.
+pub fn lines_buffer() -> [u8; 2621441] {
+    [0; 2621441]
 }

@@ -1,7 +1,7 @@
 use mathlib.Core.Path.{refl}
 use borrow.Author.Needs.{needs}
 use denote.Ref.{now}
-use Rattle.rom_line.proofs.Text.{text-within, text-long}
+use Rattle.rom_list.proofs.LineText.{text-within, text-long}
 use Rattle.rom_list.proofs.Laws.{put-so, room-so}
 use Rattle.rom_list.proofs.put_line.Statement.{statement}
 use Rattle.rom_list.proofs.put_line.Tie as tie

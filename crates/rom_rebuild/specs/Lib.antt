@@ -1,3 +1,0 @@
-pub mod Restores
-pub mod Agrees
-pub mod Rebuilds

@@ -1,2 +1,0 @@
-pub mod Performs
-pub mod Lent
