@@ -51,7 +51,7 @@ pub fn begin(state: State) -> Session
         made: 0,
         refused: 0,
         emptied: 0,
-        over: false,
+        over: false, // also where the limit is 0
     }
 }
 
