@@ -10,8 +10,8 @@ use Rattle.sheet.specs.Step.{reset}
 use Rattle.console_turns.specs.declared.Session.{Session}
 use Rattle.console_turns.specs.declared.Plan.{Plan}
 use Rattle.console_turns.specs.Stand.{begun}
-use Rattle.console_run.specs.Turns.{Plays}
-use Rattle.console_run.proofs.TurnLaws.{plays-more, plays-none}
+use Rattle.console.specs.Turns.{Plays}
+use Rattle.console.proofs.TurnLaws.{plays-more, plays-none}
 
 pub from-reset : {turns : ℕ} {plan : Plan} {t : State} {calls : List ℕ} {s s′ : Session} {ram rom tape log ram′ log′ : List ℕ} → t ≡ reset → s ≡ begun t → Plays turns calls plan s ram rom tape log s′ ram′ log′ → Plays turns calls plan (begun reset) ram rom tape log s′ ram′ log′
 from-reset {turns} {plan} {t} {calls} {s} {s′} {ram} {rom} {tape} {log} {ram′} {log′} e f h =

@@ -1,7 +1,7 @@
-use Rattle.console_run.proofs.TurnLaws.{turn-by-call, turn-by-run}
+use Rattle.console.proofs.TurnLaws.{turn-by-call, turn-by-run}
 use borrow.Author.Needs.{needs}
-use Rattle.console_run.proofs.session.turn.Statement.{statement}
-use Rattle.console_run.proofs.session.turn.Tie as tie
+use Rattle.console.proofs.session.turn.Statement.{statement}
+use Rattle.console.proofs.session.turn.Tie as tie
 
 returns : tie.Need-returns
 returns c = search (turn-by-call, needs)

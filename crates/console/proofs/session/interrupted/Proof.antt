@@ -1,7 +1,7 @@
-use Rattle.console_run.proofs.TurnLaws.{called-is}
+use Rattle.console.proofs.TurnLaws.{called-is}
 use borrow.Author.Needs.{needs}
-use Rattle.console_run.proofs.session.interrupted.Statement.{statement}
-use Rattle.console_run.proofs.session.interrupted.Tie as tie
+use Rattle.console.proofs.session.interrupted.Statement.{statement}
+use Rattle.console.proofs.session.interrupted.Tie as tie
 
 returns : tie.Need-returns
 returns c = search (called-is, needs)

@@ -1,11 +1,11 @@
 use borrow.Author.Needs.{needs}
 use Prim.Native.Nat.{_-_, _≤_}
-use Rattle.console_run.specs.Turns.{Turns, more, none}
+use Rattle.console.specs.Turns.{Turns, more, none}
 use lib.ListN.{length}
-use Rattle.console_run.proofs.TurnLaws.{plays-over, plays-spent}
+use Rattle.console.proofs.TurnLaws.{plays-over, plays-spent}
 use mathlib.Core.Path.{_≡_}
-use Rattle.console_run.proofs.session.play.Statement.{statement}
-use Rattle.console_run.proofs.session.play.Tie as tie
+use Rattle.console.proofs.session.play.Statement.{statement}
+use Rattle.console.proofs.session.play.Tie as tie
 
 abbrev Inv-loop : tie.InvT-loop
 Inv-loop ram₀ rom tape log₀ calls limit turns stand₀ done₀ ram log stand done = (done ≤ turns) × (length ram ≡ length ram₀) × (length log ≡ length log₀) × Turns calls limit stand₀ ram₀ rom tape log₀ done stand ram log

@@ -1,12 +1,12 @@
 -- The measure is a number of turns that no session uses up.
 use borrow.Author.Needs.{needs}
 use Prim.Native.Nat.{_-_, _≤_}
-use Rattle.console_run.specs.Turns.{Plays}
-use Rattle.console_run.proofs.PlayLaws.{from-reset, at-first, over-early, one-more, all-spent}
+use Rattle.console.specs.Turns.{Plays}
+use Rattle.console.proofs.PlayLaws.{from-reset, at-first, over-early, one-more, all-spent}
 use lib.ListN.{length}
 use mathlib.Core.Path.{_≡_}
-use Rattle.console_run.proofs.play.Statement.{statement}
-use Rattle.console_run.proofs.play.Tie as tie
+use Rattle.console.proofs.play.Statement.{statement}
+use Rattle.console.proofs.play.Tie as tie
 
 abbrev Inv-loop : tie.InvT-loop
 Inv-loop ram₀ rom tape log₀ schedule plan w keys₀ counts₀ s₀ clock₀ pieces₀ ram log keys counts s clock pieces = (pieces ≤ 18446744073709551615) × (length ram ≡ length ram₀) × (length log ≡ length log₀) × Plays (18446744073709551615 - pieces) schedule plan s₀ ram₀ rom tape log₀ s ram log

@@ -7,7 +7,7 @@ use console_turns::answered;
 use console_turns::budget;
 use console_turns::is_called;
 use console_turns::upcoming;
-ghost use Rattle.console_run.specs.Lent.{CalledOn, ContinuedOn, TurnOn, PlaysOn};
+ghost use Rattle.console.specs.Lent.{CalledOn, ContinuedOn, TurnOn, PlaysOn};
 
 fn interrupted(
     s: Session,

@@ -15,7 +15,7 @@ use Rattle.console_turns.specs.declared.Session.{Session}
 use Rattle.console_turns.specs.declared.Next.{Next}
 use Rattle.console_turns.specs.declared.Plan.{Plan}
 use Rattle.console_turns.specs.Stand.{comingOf, vectorOf, maskableOf, isCalled, budgetOf, answeredBy, ranBy}
-use Rattle.console_run.specs.Turns.{Called, called, Continued, continued, Turn, byCall, byRun, Turns, none, more, Plays}
+use Rattle.console.specs.Turns.{Called, called, Continued, continued, Turn, byCall, byRun, Turns, none, more, Plays}
 
 pub called-is : {call number : ℕ} {plan : Plan} {s r : Session} {ram rom tape log ram′ : List ℕ} {t : State} {n : Bus} → Interrupts (vectorOf call) (maskableOf call) (s .state) ram rom tape log number t ram′ n → r ≡ answeredBy s plan number t n → Called call plan s ram rom tape log r ram′
 called-is {call} {number} {plan} {s} {r} {ram} {rom} {tape} {log} {ram′} {t} {n} h e =

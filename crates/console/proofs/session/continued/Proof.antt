@@ -1,7 +1,7 @@
-use Rattle.console_run.proofs.TurnLaws.{continued-is}
+use Rattle.console.proofs.TurnLaws.{continued-is}
 use borrow.Author.Needs.{needs}
-use Rattle.console_run.proofs.session.continued.Statement.{statement}
-use Rattle.console_run.proofs.session.continued.Tie as tie
+use Rattle.console.proofs.session.continued.Statement.{statement}
+use Rattle.console.proofs.session.continued.Tie as tie
 
 returns : tie.Need-returns
 returns c = search (continued-is, needs)

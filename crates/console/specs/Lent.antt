@@ -5,7 +5,7 @@ use Rattle.mach_tally.specs.Lent.{Lent}
 use Rattle.console_turns.specs.declared.Session.{Session}
 use Rattle.console_turns.specs.declared.Next.{Next}
 use Rattle.console_turns.specs.declared.Plan.{Plan}
-use Rattle.console_run.specs.Turns.{Called, Continued, Turn, Plays}
+use Rattle.console.specs.Turns.{Called, Continued, Turn, Plays}
 
 abbrev pub CalledOn : ℕ → Plan → Session → Lent → Lent → Lent → Lent → Session → Type 0
 CalledOn call plan s ram rom tape log r =
