@@ -2,6 +2,7 @@
 // hand them on: ROM, TAPE, INTERRUPTS, LOG, RAM, STEPS, UNTIL (an address), the files RAM-IN, RAM-OUT and SEEN, the first and the last
 // step that are traced, the file of the report, and whether only steps that drop a byte are traced. It begins only when all of them
 // can be used, and makes its files anew. In the gate: the demonstration ROM over its tape.
+mod files;
 mod report;
 mod session;
 mod watch;
@@ -58,11 +59,10 @@ fn go_on(
 ) -> Session
     ensures { λ r. ⌜ PlaysOn 1 schedule plan s ram rom tape log r ⌝ }
 {
-    let mut line = console_trace::blank();
-    let end = watch::put_words(&mut line, s, ram, rom, w);
-    let to = watch::target(s, ram, rom, w);
+    let words = watch::words(s, ram, rom, w);
     let t = session::play(s, ram, rom, tape, log, schedule, plan, 1);
-    watch::note(line, end, to, s, t, log, schedule, w, keys, counts);
+    watch::print(words, s, t, log, schedule, w);
+    watch::count(s, t, w, keys, counts);
     t
 }
 
@@ -96,11 +96,8 @@ fn play(
 
 // Plays, writes the files and then the report.
 fn conclude(ram: &mut [u8], rom: &[u8], tape: &[u8], schedule: &[u64], plan: Plan, w: Watch) {
-    let log_file = console_files::open(4);
-    let ram_file = console_files::open(9);
-    let seen_file = console_files::open(10);
-    let report = console_files::open(13);
-    if !(log_file.ok & (ram_file.ok & (seen_file.ok & report.ok))) {
+    let files = files::open();
+    if !files::are_open(files) {
         return;
     }
     let mut log = io::large_buffer();
@@ -117,21 +114,8 @@ fn conclude(ram: &mut [u8], rom: &[u8], tape: &[u8], schedule: &[u64], plan: Pla
         &mut keys,
         &mut counts,
     );
-    let state = s.state;
-    if console_files::keep(log_file, b"the log", &log, state.progress.log)
-        && console_files::keep(ram_file, b"RAM", ram, ram.len())
-        && watch::keep_counts(seen_file, &keys, &counts)
-        && !report::print_report(
-            console_files::descriptor(report),
-            s,
-            plan,
-            ram,
-            rom,
-            tape.len(),
-            schedule.len(),
-        )
-    {
-        say(b"v30: cannot write the report\n");
+    if files::keep(files, s, ram, &log, &keys, &counts) {
+        report::keep(files.report, s, plan, ram, rom, tape.len(), schedule.len());
     }
 }
 

@@ -1,6 +1,7 @@
 // What is seen of a session that goes by single steps: the lines of its trace, and how often the instruction at each address ran.
 use console_files::Output;
 use console_trace::Traffic;
+use console_trace::Words;
 use console_trace::target::STACK;
 use console_turns::Session;
 use mach_registers::PC;
@@ -20,22 +21,13 @@ fn is_printed(w: Watch, step: u64) -> bool {
     (w.from <= step) & (step <= w.to)
 }
 
-// Puts the words of the next step, where it is printed.
-pub fn put_words(line: &mut [u8; 80], s: Session, ram: &[u8], rom: &[u8], w: Watch) -> usize {
+// The words of the next step, if it is printed.
+pub fn words(s: Session, ram: &[u8], rom: &[u8], w: Watch) -> Words {
     if !is_printed(w, wrapping_add_u64(s.steps, 1)) {
-        return 0;
+        return console_trace::no_words();
     }
     let state = s.state;
-    console_trace::put_next(line, state, ram, rom)
-}
-
-// Where the next step writes, if it is printed.
-pub fn target(s: Session, ram: &[u8], rom: &[u8], w: Watch) -> usize {
-    if !is_printed(w, wrapping_add_u64(s.steps, 1)) {
-        return STACK;
-    }
-    let state = s.state;
-    console_trace::next_target(state, ram, rom)
+    console_trace::next_words(state, ram, rom)
 }
 
 fn traffic(s: Session, t: Session, to: usize) -> Traffic {
@@ -46,10 +38,11 @@ fn traffic(s: Session, t: Session, to: usize) -> Traffic {
     }
 }
 
-fn print_step(line: [u8; 80], end: usize, to: usize, s: Session, t: Session, log: &[u8]) {
+fn print_step(words: Words, s: Session, t: Session, log: &[u8]) {
     let a = s.state;
     let b = t.state;
-    console_trace::write_step(line, end, t.steps, a, b, traffic(s, t, to), log);
+    let bus = traffic(s, t, words.to);
+    console_trace::write_step(words, t.steps, a, b, bus, log);
 }
 
 fn print_call(call: u64, s: Session, t: Session, log: &[u8]) {
@@ -67,40 +60,25 @@ fn made(schedule: &[u64], n: usize) -> u64 {
     0
 }
 
-fn print_turn(
-    line: [u8; 80],
-    end: usize,
-    to: usize,
-    s: Session,
-    t: Session,
-    log: &[u8],
-    schedule: &[u64],
-) {
+fn print_turn(words: Words, s: Session, t: Session, log: &[u8], schedule: &[u64]) {
     if t.made != s.made {
         print_call(made(schedule, s.made), s, t, log);
     }
     if t.steps != s.steps {
-        print_step(line, end, to, s, t, log);
+        print_step(words, s, t, log);
     }
 }
 
-// Sees what a turn did.
-pub fn note(
-    line: [u8; 80],
-    end: usize,
-    to: usize,
-    s: Session,
-    t: Session,
-    log: &[u8],
-    schedule: &[u64],
-    w: Watch,
-    keys: &mut [u32; 65536],
-    counts: &mut [u64; 65536],
-) {
+// Prints what a turn did, where that is wanted.
+pub fn print(words: Words, s: Session, t: Session, log: &[u8], schedule: &[u64], w: Watch) {
     let wanted = !w.drops | (t.dropped != s.dropped);
     if wanted & is_printed(w, wrapping_add_u64(s.steps, 1)) {
-        print_turn(line, end, to, s, t, log, schedule);
+        print_turn(words, s, t, log, schedule);
     }
+}
+
+// Counts the step that a turn did, where that is wanted.
+pub fn count(s: Session, t: Session, w: Watch, keys: &mut [u32; 65536], counts: &mut [u64; 65536]) {
     if w.counts & (t.steps != s.steps) {
         let state = s.state;
         let file = state.file;

@@ -14,9 +14,12 @@ use mach_registers::PS;
 use mach_registers::PSW;
 use mach_registers::SP;
 use mach_registers::SS;
+use rom_mnemonic::Operand;
 use sheet::Entry;
 use sheet::GapRule;
+use sheet::Instr;
 use sheet::State;
+ghost use Prim.Native.Nat.{_<_};
 
 // A line of spaces.
 pub fn blank() -> [u8; 80] {
@@ -43,18 +46,17 @@ fn begin(n: u64) -> usize {
     if k < 8 { 8 - k } else { 0 }
 }
 
-// A byte that begins no instruction, as the listing has it.
-fn put_data(line: &mut [u8; 80], at: usize, b: u8) -> usize {
-    let x = put_word(line, at, b"DB ");
-    put_hex(line, x, b as u64, 2)
-}
-
 // The code byte at an offset.
 fn put_code(line: &mut [u8; 80], at: usize, ps: u16, pc: u16, ram: &[u8], rom: &[u8]) -> usize {
     put_hex(line, at, mach_memory::read_byte(ram, rom, ps, pc) as u64, 2)
 }
 
-// The bytes of an instruction, up to three.
+// PSW's bit 15 is the mode.
+fn is_native(psw: u16) -> bool {
+    32768 <= psw
+}
+
+// The bytes of an instruction of the 8080 mode, up to three.
 fn put_bytes(
     line: &mut [u8; 80],
     at: usize,
@@ -76,110 +78,161 @@ fn put_bytes(
     put_code(line, z, ps, std::num::wrapping_add_u16(pc, 2), ram, rom)
 }
 
-// PSW's bit 15 is the mode.
-fn is_native(psw: u16) -> bool {
-    32768 <= psw
-}
-
-// The address PS:PC and the instruction there; one of the 8080 mode by its bytes.
-pub fn put_there(
+// What stands behind an instruction: its bytes, where the mode is that of the 8080.
+fn put_behind(
     line: &mut [u8; 80],
     at: usize,
-    native: bool,
-    ps: u16,
-    pc: u16,
+    file: [u16; 14],
+    size: u16,
     ram: &[u8],
     rom: &[u8],
 ) -> usize {
-    let a = mach_memory::address(ps, pc);
+    if is_native(file[PSW]) {
+        return at;
+    }
+    put_bytes(line, at, file[PS], file[PC], size, ram, rom)
+}
+
+// Where the text of an instruction ends, and where the instruction writes.
+struct There {
+    end: usize,
+    to: usize,
+}
+
+fn put_known(
+    line: &mut [u8; 80],
+    at: usize,
+    file: [u16; 14],
+    instr: Instr,
+    size: u16,
+    ram: &[u8],
+    rom: &[u8],
+) -> There {
+    let next = mach_memory::address(file[PS], std::num::wrapping_add_u16(file[PC], size));
+    let x = rom_words::put_instr(line, at, next as u32, instr);
+    let end = put_behind(line, x, file, size, ram, rom);
+    There {
+        end,
+        to: target::of(&file, instr),
+    }
+}
+
+// A byte that begins no instruction, as the listing has it.
+fn put_unknown(line: &mut [u8; 80], at: usize, b: u8) -> There {
+    let x = put_word(line, at, b"DB ");
+    There {
+        end: put_hex(line, x, b as u64, 2),
+        to: target::STACK,
+    }
+}
+
+// The instruction at PS:PC.
+fn put_decoded(line: &mut [u8; 80], at: usize, file: [u16; 14], ram: &[u8], rom: &[u8]) -> There {
+    let ps = file[PS];
+    let pc = file[PC];
+    match code_mode::decode(is_native(file[PSW]), ram, rom, ps, pc) {
+        Decoded::Known { instr, size } => put_known(line, at, file, instr, size, ram, rom),
+        Decoded::Unknown { .. } => put_unknown(line, at, mach_memory::read_byte(ram, rom, ps, pc)),
+    }
+}
+
+// The address PS:PC and the instruction there.
+fn put_there(line: &mut [u8; 80], at: usize, file: [u16; 14], ram: &[u8], rom: &[u8]) -> There {
+    let a = mach_memory::address(file[PS], file[PC]);
     let x = put_hex(line, at, a as u64, 5);
     let y = put_byte(line, x, b' ');
-    match code_mode::decode(native, ram, rom, ps, pc) {
-        Decoded::Known { instr, size } => {
-            let next = mach_memory::address(ps, std::num::wrapping_add_u16(pc, size));
-            let z = rom_words::put_instr(line, y, next as u32, instr);
-            if native {
-                return z;
-            }
-            put_bytes(line, z, ps, pc, size, ram, rom)
-        }
-        Decoded::Unknown { .. } => put_data(line, y, mach_memory::read_byte(ram, rom, ps, pc)),
-    }
+    put_decoded(line, y, file, ram, rom)
 }
 
 // ---- registers and flags
 
-// A register where it has changed.
-fn put_register(line: &mut [u8; 80], at: usize, name: &[u8], old: u16, new: u16) -> usize {
-    if old == new {
-        return at;
+// A register by its number.
+fn register(number: u8) -> Operand {
+    if number < 8 {
+        return Operand::Reg { word: true, number };
     }
-    let x = put_word(line, at, name);
-    put_hex(line, x, new as u64, 4)
+    Operand::Seg(number)
 }
 
-fn put_general(line: &mut [u8; 80], at: usize, a: [u16; 14], b: [u16; 14]) -> usize {
-    let x = put_register(line, at, b"  AW ", a[0], b[0]);
-    let y = put_register(line, x, b"  CW ", a[1], b[1]);
-    let z = put_register(line, y, b"  DW ", a[2], b[2]);
-    put_register(line, z, b"  BW ", a[3], b[3])
+fn put_register(line: &mut [u8; 80], at: usize, number: u8, value: u16) -> usize {
+    let x = put_byte(line, at, b' ');
+    let name = register(number);
+    let y = rom_mnemonic::put_after(line, x, name);
+    let z = put_byte(line, y, b' ');
+    put_hex(line, z, value as u64, 4)
 }
 
-fn put_pointers(line: &mut [u8; 80], at: usize, a: [u16; 14], b: [u16; 14]) -> usize {
-    let x = put_register(line, at, b"  SP ", a[4], b[4]);
-    let y = put_register(line, x, b"  BP ", a[5], b[5]);
-    let z = put_register(line, y, b"  IX ", a[6], b[6]);
-    put_register(line, z, b"  IY ", a[7], b[7])
+// Of the registers from one number up to another those that changed, or all.
+fn put_span(
+    line: &mut [u8; 80],
+    at: usize,
+    from: u8,
+    to: u8,
+    a: [u16; 14],
+    b: [u16; 14],
+    always: bool,
+) -> usize
+    requires { ⌜ to < 14 ⌝ }
+{
+    let mut end = at;
+    let mut n = from;
+    while n < to {
+        let i = n as usize;
+        if (a[i] != b[i]) | always {
+            end = put_register(line, end, n, b[i]);
+        }
+        n = n + 1;
+    }
+    end
 }
 
-fn put_segments(line: &mut [u8; 80], at: usize, a: [u16; 14], b: [u16; 14]) -> usize {
-    let x = put_register(line, at, b"  PS ", a[9], b[9]);
-    let y = put_register(line, x, b"  SS ", a[10], b[10]);
-    let z = put_register(line, y, b"  DS0 ", a[11], b[11]);
-    put_register(line, z, b"  DS1 ", a[8], b[8])
+// The segment registers: PS, SS, DS0 and last DS1, whose number is the lowest.
+fn put_segments(line: &mut [u8; 80], at: usize, a: [u16; 14], b: [u16; 14], always: bool) -> usize {
+    let x = put_span(line, at, 9, 12, a, b, always);
+    put_span(line, x, 8, 9, a, b, always)
 }
 
 // The registers that changed, without PC and PSW.
-pub fn put_registers(line: &mut [u8; 80], at: usize, a: [u16; 14], b: [u16; 14]) -> usize {
-    let x = put_general(line, at, a, b);
-    let y = put_pointers(line, x, a, b);
-    put_segments(line, y, a, b)
+fn put_registers(line: &mut [u8; 80], at: usize, a: [u16; 14], b: [u16; 14]) -> usize {
+    let x = put_span(line, at, 0, 8, a, b, false);
+    put_segments(line, x, a, b, false)
 }
 
-// A flag, which is the lowest bit of what is given: where it has changed, or always.
+// A flag, whose bit has this weight: where it has changed, or always.
 fn put_flag(
     line: &mut [u8; 80],
     at: usize,
     name: &[u8],
-    old: u16,
-    new: u16,
+    weight: u16,
+    a: u16,
+    b: u16,
     always: bool,
-) -> usize {
-    if (old % 2 == new % 2) & !always {
+) -> usize
+    requires { ⌜ 0 < weight ⌝ }
+{
+    let new = b / weight % 2;
+    if (a / weight % 2 == new) & !always {
         return at;
     }
     let x = put_word(line, at, name);
-    if new % 2 == 1 {
-        return put_byte(line, x, b'1');
-    }
-    put_byte(line, x, b'0')
+    put_hex(line, x, new as u64, 1)
 }
 
 fn put_low_flags(line: &mut [u8; 80], at: usize, a: u16, b: u16, always: bool) -> usize {
-    let x = put_flag(line, at, b"  S ", a / 128, b / 128, always);
-    let y = put_flag(line, x, b"  Z ", a / 64, b / 64, always);
-    let z = put_flag(line, y, b"  AC ", a / 16, b / 16, always);
-    let p = put_flag(line, z, b"  P ", a / 4, b / 4, always);
-    put_flag(line, p, b"  CY ", a, b, always)
+    let x = put_flag(line, at, b"  S ", 128, a, b, always);
+    let y = put_flag(line, x, b"  Z ", 64, a, b, always);
+    let z = put_flag(line, y, b"  AC ", 16, a, b, always);
+    let p = put_flag(line, z, b"  P ", 4, a, b, always);
+    put_flag(line, p, b"  CY ", 1, a, b, always)
 }
 
 // The flags of PSW by name: those that changed, or all; the mode where it changed.
-pub fn put_flags(line: &mut [u8; 80], at: usize, a: u16, b: u16, always: bool) -> usize {
-    let w = put_flag(line, at, b"  MD ", a / 32768, b / 32768, false);
-    let x = put_flag(line, w, b"  V ", a / 2048, b / 2048, always);
-    let y = put_flag(line, x, b"  DIR ", a / 1024, b / 1024, always);
-    let z = put_flag(line, y, b"  IE ", a / 512, b / 512, always);
-    let p = put_flag(line, z, b"  BRK ", a / 256, b / 256, always);
+fn put_flags(line: &mut [u8; 80], at: usize, a: u16, b: u16, always: bool) -> usize {
+    let w = put_flag(line, at, b"  MD ", 32768, a, b, false);
+    let x = put_flag(line, w, b"  V ", 2048, a, b, always);
+    let y = put_flag(line, x, b"  DIR ", 1024, a, b, always);
+    let z = put_flag(line, y, b"  IE ", 512, a, b, always);
+    let p = put_flag(line, z, b"  BRK ", 256, a, b, always);
     put_low_flags(line, p, a, b, always)
 }
 
@@ -233,10 +286,7 @@ fn put_way(line: &mut [u8; 80], at: usize, key: u64) -> usize {
 
 fn put_value(line: &mut [u8; 80], at: usize, key: u64, value: u64) -> usize {
     let x = put_byte(line, at, b' ');
-    if key % 4 < 2 {
-        return put_hex(line, x, value, 2);
-    }
-    put_hex(line, x, value, 4)
+    put_hex(line, x, value, if key % 4 < 2 { 2 } else { 4 })
 }
 
 // The record that a step wrote at a place of the log.
@@ -261,7 +311,7 @@ fn put_port(line: &mut [u8; 80], at: usize, log: &[u8], before: usize, after: us
 }
 
 // Flags that changed, bus cycles and the port record.
-pub fn put_effects(
+fn put_effects(
     line: &mut [u8; 80],
     at: usize,
     s: State,
@@ -286,26 +336,31 @@ fn column(end: usize) -> usize {
     if end < 48 { 48 } else { end }
 }
 
-// The instruction that a state is about to do, with room before it for the number of its step.
-pub fn put_next(line: &mut [u8; 80], s: State, ram: &[u8], rom: &[u8]) -> usize {
-    let file = s.file;
-    put_there(
-        line,
-        WORDS,
-        is_native(file[PSW]),
-        file[PS],
-        file[PC],
-        ram,
-        rom,
-    )
+// The words of a step that is to be done: their line, where they end, and where the step writes.
+pub struct Words {
+    pub line: [u8; 80],
+    pub end: usize,
+    pub to: usize,
 }
 
-// Where the instruction writes that a state is about to do.
-pub fn next_target(s: State, ram: &[u8], rom: &[u8]) -> usize {
+pub fn no_words() -> Words {
+    let line = blank();
+    Words {
+        line,
+        end: 0,
+        to: target::STACK,
+    }
+}
+
+// The instruction that a state is about to do, with room before it for the number of its step.
+pub fn next_words(s: State, ram: &[u8], rom: &[u8]) -> Words {
     let file = s.file;
-    match code_mode::decode(is_native(file[PSW]), ram, rom, file[PS], file[PC]) {
-        Decoded::Known { instr, .. } => target::of(&file, instr),
-        Decoded::Unknown { .. } => target::STACK,
+    let mut line = blank();
+    let there = put_there(&mut line, WORDS, file, ram, rom);
+    Words {
+        line,
+        end: there.end,
+        to: there.to,
     }
 }
 
@@ -331,18 +386,10 @@ fn write_line(words: [u8; 80], end: usize, s: State, t: State, bus: Traffic, log
 }
 
 // The line of a step, whose words were put before it was done.
-pub fn write_step(
-    words: [u8; 80],
-    end: usize,
-    step: u64,
-    s: State,
-    t: State,
-    bus: Traffic,
-    log: &[u8],
-) -> bool {
-    let mut line = words;
+pub fn write_step(words: Words, step: u64, s: State, t: State, bus: Traffic, log: &[u8]) -> bool {
+    let mut line = words.line;
     put_decimal(&mut line, begin(step), step);
-    write_line(line, end, s, t, bus, log)
+    write_line(line, words.end, s, t, bus, log)
 }
 
 fn put_call(line: &mut [u8; 80], vector: u64, refused: bool) -> usize {
@@ -370,6 +417,34 @@ pub fn write_call(
 
 // ---- the end of a session
 
+// A line without the two spaces that it begins with.
+fn write_behind(fd: i32, line: [u8; 80], end: usize) -> bool {
+    let n = console_files::within(end, &line);
+    if n < 2 {
+        return true;
+    }
+    io::write_all(fd, &line[2..n])
+}
+
+// All registers: two lines.
+pub fn write_registers(fd: i32, file: [u16; 14]) -> bool {
+    let mut general = blank();
+    let n = put_span(&mut general, 0, 0, 8, file, file, true);
+    let stop = put_byte(&mut general, n, b'\n');
+    write_behind(fd, general, stop) & write_others(fd, file)
+}
+
+fn write_others(fd: i32, file: [u16; 14]) -> bool {
+    let mut line = blank();
+    let x = put_segments(&mut line, 0, file, file, true);
+    let y = put_word(&mut line, x, b"  PC ");
+    let z = put_hex(&mut line, y, file[PC] as u64, 4);
+    let p = put_word(&mut line, z, b"  PSW ");
+    let q = put_hex(&mut line, p, file[PSW] as u64, 4);
+    let stop = put_byte(&mut line, q, b'\n');
+    write_behind(fd, line, stop)
+}
+
 // The instruction that would be next, and the flags: two lines.
 pub fn write_stand(fd: i32, s: State, ram: &[u8], rom: &[u8]) -> bool {
     let file = s.file;
@@ -378,13 +453,13 @@ pub fn write_stand(fd: i32, s: State, ram: &[u8], rom: &[u8]) -> bool {
     let x = put_word(&mut flags, 0, b"flags");
     let y = put_flags(&mut flags, x, psw, psw, true);
     let n = put_byte(&mut flags, y, b'\n');
-    write(fd, flags, n) & write_next(fd, is_native(psw), file[PS], file[PC], ram, rom)
+    write(fd, flags, n) & write_next(fd, file, ram, rom)
 }
 
-fn write_next(fd: i32, native: bool, ps: u16, pc: u16, ram: &[u8], rom: &[u8]) -> bool {
+fn write_next(fd: i32, file: [u16; 14], ram: &[u8], rom: &[u8]) -> bool {
     let mut line = blank();
     let x = put_word(&mut line, 0, b"at ");
-    let y = put_there(&mut line, x, native, ps, pc, ram, rom);
-    let n = put_byte(&mut line, y, b'\n');
+    let there = put_there(&mut line, x, file, ram, rom);
+    let n = put_byte(&mut line, there.end, b'\n');
     write(fd, line, n)
 }
