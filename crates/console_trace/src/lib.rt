@@ -151,7 +151,7 @@ fn register(number: u8) -> Operand {
     if number < 8 {
         return Operand::Reg { word: true, number };
     }
-    Operand::Seg(number)
+    Operand::Seg(number - 8)
 }
 
 fn put_register(line: &mut [u8; 80], at: usize, number: u8, value: u16) -> usize {
