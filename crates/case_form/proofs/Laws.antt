@@ -1,19 +1,24 @@
 -- What the branches and the turns of the loops come to. Assumes nothing.
-use Prim.Native.Nat.{ℕ, _+_, _*_, _<_, _≤_}
-use mathlib.Core.Bool.{not}
+use Prim.Native.Nat.{ℕ, _+_, _*_, _/_, _^_, _<_, _≤_}
+use mathlib.Core.Bool.{Bool, true, false, true≢false, not, _&&_}
 use mathlib.Core.List.{List}
-use mathlib.Core.Path.{_≡_, _∙_}
+use mathlib.Core.Path.{_≡_, _∙_, refl, sym}
 use native.Mathlib.Numerals.{add-one}
 use native.Mathlib.Omega.{arith}
 use lib.ListN.{getD, set}
-use lib.Dec.{eqb}
-use borrow.Author.Tests.{lt-ltb, le-ltb, ne-eqb}
+use lib.Dec.{eqb, leb}
+use mir.Syntax.{w64}
+use mir.Val.{Fits}
+use borrow.Author.Tests.{lt-ltb, le-ltb, ne-eqb, leb-true, leb-false, le-leb, lt-leb}
 use Rattle.sheet.specs.declared.GapRule.{GapRule}
 use Rattle.sheet.specs.declared.GapRule.the-variants.{Old, New}
 use Rattle.sheet.specs.declared.Entry.{Entry}
 use Rattle.sheet.specs.declared.Entry.the-variants.{Record, End, Malformed, Beyond}
 use Rattle.case_bytes.specs.Numbers.{wordAt, doubleAt, wordPut}
-use Rattle.case_form.specs.Form.{placeOf, fileOf, ruleOf, caseOf, withFile, withRecord, withEntry}
+use Rattle.case_form.specs.declared.Call.{Call}
+use Rattle.case_form.specs.declared.Call.the-variants.{Step, Run, Interrupt, Reset, ReadLog, Quick}
+use Rattle.case_form.specs.declared.Case.{Case}
+use Rattle.case_form.specs.Form.{placeOf, fileOf, ruleOf, callOf, caseOf, fitsIn, withFile, withRecord, withEntry}
 
 module _ (i : ℕ) where
   pub place-general : i < 8 → (i ≡ placeOf i) × (i < 14)
@@ -41,11 +46,83 @@ module _ (header : List ℕ) where
   unfolding ruleOf
   rule-new f = rw (ne-eqb (getD header 63 0) 0 f)
 
-  pub case-is : (budget ram rom tape log patches : ℕ) (rule : GapRule) → budget ≡ wordAt header 4 → rule ≡ ruleOf header → ram ≡ doubleAt header 46 → rom ≡ doubleAt header 50
+  pub case-is : (call : Call) (budget ram rom tape log patches : ℕ) (rule : GapRule) → call ≡ callOf (getD header 0 0) → budget ≡ wordAt header 4 → rule ≡ ruleOf header → ram ≡ doubleAt header 46 → rom ≡ doubleAt header 50
       → tape ≡ wordAt header 54 → log ≡ wordAt header 56 → patches ≡ wordAt header 58
-      → record { call = getD header 0 0; maskable = not (eqb (getD header 2 0) 0); vector = getD header 3 0; budget = budget; rule = rule; ram = ram; rom = rom; tape = tape; log = log; patches = patches; fill = getD header 60 0 } ≡ caseOf header
+      → record { call = call; maskable = not (eqb (getD header 2 0) 0); vector = getD header 3 0; budget = budget; rule = rule; ram = ram; rom = rom; tape = tape; log = log; patches = patches; fill = getD header 60 0 } ≡ caseOf header
   unfolding caseOf
-  case-is budget ram rom tape log patches rule a b d e f g h = rw (a, b, d, e, f, g, h)
+  case-is call budget ram rom tape log patches rule k a b d e f g h = rw (k, a, b, d, e, f, g, h)
+
+module _ (n : ℕ) where
+  pub call-step : n ≡ 0 → Step ≡ callOf n
+  unfolding callOf
+  call-step e = rw e
+
+  pub call-run : n ≡ 1 → Run ≡ callOf n
+  unfolding callOf
+  call-run e = rw e
+
+  pub call-interrupt : n ≡ 2 → Interrupt ≡ callOf n
+  unfolding callOf
+  call-interrupt e = rw e
+
+  pub call-read-log : n ≡ 4 → ReadLog ≡ callOf n
+  unfolding callOf
+  call-read-log e = rw e
+
+  pub call-quick : n ≡ 5 → Quick ≡ callOf n
+  unfolding callOf
+  call-quick e = rw e
+
+  pub call-reset : (n ≡ 0 → ⊥) → (n ≡ 1 → ⊥) → (n ≡ 2 → ⊥) → (n ≡ 4 → ⊥) → (n ≡ 5 → ⊥) → Reset ≡ callOf n
+  unfolding callOf
+  call-reset a b d e f = rw (ne-eqb n 0 a, ne-eqb n 1 b, ne-eqb n 2 d, ne-eqb n 4 e, ne-eqb n 5 f)
+
+-- a buffer has room for so many patches
+room : (p n : ℕ) → leb p (n / 6) ≡ leb (p * 6) n
+room p n = go (leb (p * 6) n) refl
+  where
+    go : (b : Bool) → leb (p * 6) n ≡ b → leb p (n / 6) ≡ leb (p * 6) n
+    go true e = rw e (le-leb p (n / 6) (omega (arith, leb-true (p * 6) n e)))
+    go false e = rw e (lt-leb p (n / 6) (omega (arith, leb-false (p * 6) n e)))
+
+pub fits-is : (c : Case) (ram rom tape log patches : ℕ)
+    → leb (c .ram) ram && (leb (c .rom) rom && (leb (c .tape) tape && (leb (c .log) log && leb (c .patches) (patches / 6)))) ≡ fitsIn c ram rom tape log patches
+unfolding fitsIn
+fits-is c ram rom tape log patches = rw (room (c .patches) patches)
+
+both : (a b : Bool) → a && b ≡ true → (a ≡ true) × (b ≡ true)
+both true b e = (refl, e)
+both false b e = absurd (true≢false (sym e))
+
+-- what is known of buffers that a case fits in
+module _ (c : Case) (ram rom tape log patches : ℕ) (r : Bool) (e : r ≡ fitsIn c ram rom tape log patches) (h : r ≡ true) where
+  all-fit : (c .ram ≤ ram) × (c .rom ≤ rom) × (c .tape ≤ tape) × (c .log ≤ log) × (c .patches * 6 ≤ patches)
+  unfolding fitsIn
+  all-fit =
+      let a = both (leb (c .ram) ram) _ (sym e ∙ h) in
+      let b = both (leb (c .rom) rom) _ (a .1) in
+      let d = both (leb (c .tape) tape) _ (b .1) in
+      let f = both (leb (c .log) log) _ (d .1) in
+      (leb-true _ _ (a .0), leb-true _ _ (b .0), leb-true _ _ (d .0), leb-true _ _ (f .0), leb-true _ _ (f .1))
+
+  pub ram-fits : c .ram ≤ ram
+  ram-fits = all-fit .0
+
+  pub rom-fits : c .rom ≤ rom
+  rom-fits = all-fit .1
+
+  pub tape-fits : c .tape ≤ tape
+  tape-fits = all-fit .2
+
+  pub log-fits : c .log ≤ log
+  log-fits = all-fit .3
+
+  pub patches-fit : c .patches * 6 ≤ patches
+  patches-fit = all-fit .4
+
+  -- what is known of every slice keeps their bytes in range
+  pub patches-small : patches * 1 < 2 ^ 63 → Fits w64 (c .patches * 6)
+  patches-small l = record { fits = omega (arith, patches-fit, l) }
 
 -- one register more is read
 pub file-more : (header file : List ℕ) (i at value : ℕ) → at ≡ placeOf i → value ≡ wordAt header (6 + i * 2) → file ≡ fileOf header i → set file at value ≡ fileOf header (i + 1)

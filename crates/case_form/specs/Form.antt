@@ -14,6 +14,8 @@ use Rattle.sheet.specs.declared.GapRule.the-variants.{Old, New}
 use Rattle.sheet.specs.declared.Entry.{Entry}
 use Rattle.sheet.specs.declared.Entry.the-variants.{Record, End, Malformed, Beyond}
 use Rattle.case_bytes.specs.Numbers.{wordAt, doubleAt, wordPut, doublePut}
+use Rattle.case_form.specs.declared.Call.{Call}
+use Rattle.case_form.specs.declared.Call.the-variants.{Step, Run, Interrupt, Reset, ReadLog, Quick}
 use Rattle.case_form.specs.declared.Case.{Case}
 
 -- the rules for a header's bytes: call, halted, masking, the mark of a segment load, the permission and the gap rule; zero in the flags
@@ -43,10 +45,14 @@ stateOf header =
 unfoldable pub ruleOf : List ℕ → GapRule
 ruleOf header = pick (eqb (getD header 63 0) 0) Old New
 
+-- the call of a number: 0 step, 1 run, 2 interrupt, 3 reset, 4 log reading, 5 the quicker run; above 5 are none
+unfoldable pub callOf : ℕ → Call
+callOf n = pick (eqb n 0) Step (pick (eqb n 1) Run (pick (eqb n 2) Interrupt (pick (eqb n 4) ReadLog (pick (eqb n 5) Quick Reset))))
+
 unfoldable pub caseOf : List ℕ → Case
 caseOf header =
     record {
-      call = getD header 0 0;
+      call = callOf (getD header 0 0);
       maskable = not (eqb (getD header 2 0) 0);
       vector = getD header 3 0;
       budget = wordAt header 4;
@@ -58,6 +64,11 @@ caseOf header =
       patches = wordAt header 58;
       fill = getD header 60 0;
     }
+
+-- whether buffers of these lengths are as long as a case has them; a patch has six bytes
+unfoldable pub fitsIn : Case → ℕ → ℕ → ℕ → ℕ → ℕ → Bool
+fitsIn c ram rom tape log patches =
+    leb (c .ram) ram && (leb (c .rom) rom && (leb (c .tape) tape && (leb (c .log) log && leb (c .patches * 6) patches)))
 
 -- a result with the answer, the marks and the steps done put in
 unfoldable pub withAnswer : ℕ → Marks → ℕ → List ℕ → List ℕ
@@ -84,6 +95,10 @@ withCall number steps bus s l =
 -- with the sums of RAM and log put in
 unfoldable pub withSums : ℕ → ℕ → List ℕ → List ℕ
 withSums ram log l = doublePut (doublePut l 50 ram) 54 log
+
+-- the whole result of a call on the machine
+unfoldable pub resultOf : ℕ → ℕ → Bus → State → ℕ → ℕ → List ℕ
+resultOf number steps bus s ram log = withSums ram log (withCall number steps bus s (replicate 88 0))
 
 -- a result of a log reading: kind, gap, key, value, place
 unfoldable pub withRecord : ℕ → ℕ → ℕ → ℕ → ℕ → List ℕ → List ℕ

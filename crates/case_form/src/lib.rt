@@ -11,8 +11,8 @@ use sheet::Progress;
 use sheet::State;
 ghost use mathlib.Core.Path.{_≡_};
 ghost use Prim.Native.Nat.{_<_};
-ghost use Rattle.case_form.specs.Form.{placeOf, goodHeader, fileOf, stateOf, ruleOf, caseOf, withFile, withAnswer, withTally};
-ghost use Rattle.case_form.specs.Form.{withPlaces, withCall, withSums, withRecord, withEntry};
+ghost use Rattle.case_form.specs.Form.{placeOf, goodHeader, fileOf, stateOf, ruleOf, callOf, caseOf, fitsIn, withFile, withAnswer};
+ghost use Rattle.case_form.specs.Form.{withTally, withPlaces, withCall, withSums, resultOf, withRecord, withEntry};
 
 // ---- the header
 
@@ -96,9 +96,33 @@ fn rule_of(header: &[u8; 72]) -> GapRule
     }
 }
 
+// The calls that a case can ask for; `Quick` is the quicker run.
+pub enum Call {
+    Step,
+    Run,
+    Interrupt,
+    Reset,
+    ReadLog,
+    Quick,
+}
+
+// The call of a number; no good header has one above 5.
+fn call_of(number: u8) -> Call
+    ensures { λ r. ⌜ r ≡ callOf number ⌝ }
+{
+    match number {
+        0 => Call::Step,
+        1 => Call::Run,
+        2 => Call::Interrupt,
+        4 => Call::ReadLog,
+        5 => Call::Quick,
+        _ => Call::Reset,
+    }
+}
+
 // The rest of a header: the call with its arguments, the lengths of the buffers, the number of patches, the byte to fill with.
 pub struct Case {
-    pub call: u8,
+    pub call: Call,
     pub maskable: bool,
     pub vector: u8,
     pub budget: u16,
@@ -114,6 +138,7 @@ pub struct Case {
 pub fn case_of(header: &[u8; 72]) -> Case
     ensures { λ r. ⌜ r ≡ caseOf (now (header .entry)) ⌝ }
 {
+    let call = call_of(header[0]);
     let budget = word_at(header, 4);
     let rule = rule_of(header);
     let ram = double_at(header, 46);
@@ -122,7 +147,7 @@ pub fn case_of(header: &[u8; 72]) -> Case
     let log = word_at(header, 56);
     let patches = word_at(header, 58);
     Case {
-        call: header[0],
+        call,
         maskable: header[2] != 0,
         vector: header[3],
         budget,
@@ -134,6 +159,14 @@ pub fn case_of(header: &[u8; 72]) -> Case
         patches: patches as usize,
         fill: header[60],
     }
+}
+
+// Whether buffers of these lengths are as long as a case has them; a patch has six bytes.
+pub fn fits(c: Case, ram: usize, rom: usize, tape: usize, log: usize, patches: usize) -> bool
+    ensures { λ r. ⌜ r ≡ fitsIn c ram rom tape log patches ⌝ }
+{
+    (c.ram <= ram)
+        & ((c.rom <= rom) & ((c.tape <= tape) & ((c.log <= log) & (c.patches <= patches / 6))))
 }
 
 // ---- the result of a call on the machine
@@ -177,7 +210,7 @@ fn put_places(out: &mut [u8; 88], tape: usize, log: usize, count: u32)
 }
 
 // All but the sums.
-pub fn put_call(out: &mut [u8; 88], number: u8, steps: u32, bus: Bus, s: State)
+fn put_call(out: &mut [u8; 88], number: u8, steps: u32, bus: Bus, s: State)
     ensures { λ _. ⌜ now (out .exit) ≡ withCall number steps bus s (now (out .entry)) ⌝ }
 {
     let marks = s.marks;
@@ -188,11 +221,21 @@ pub fn put_call(out: &mut [u8; 88], number: u8, steps: u32, bus: Bus, s: State)
     put_places(out, s.progress.tape, s.progress.log, s.progress.count);
 }
 
-pub fn put_sums(out: &mut [u8; 88], ram: u32, log: u32)
+fn put_sums(out: &mut [u8; 88], ram: u32, log: u32)
     ensures { λ _. ⌜ now (out .exit) ≡ withSums ram log (now (out .entry)) ⌝ }
 {
     put_double(out, 50, ram);
     put_double(out, 54, log);
+}
+
+// The whole result: the bytes for what a call came to, with the sums of RAM and log after it.
+pub fn result_of(number: u8, steps: u32, bus: Bus, s: State, ram: u32, log: u32) -> [u8; 88]
+    ensures { λ r. ⌜ r ≡ resultOf number steps bus s ram log ⌝ }
+{
+    let mut out = [0; 88];
+    put_call(&mut out, number, steps, bus, s);
+    put_sums(&mut out, ram, log);
+    out
 }
 
 // ---- the result of a log reading

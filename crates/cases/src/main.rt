@@ -1,4 +1,7 @@
 // Answers the case stream on standard input. In the gate: a case for each of the five calls, then one that is cut off.
+mod call;
+mod stream;
+
 fn main() {
-    case_call::stream::run();
+    stream::run();
 }

@@ -1,5 +1,5 @@
-// The program `cases` as a library: cases come from standard input one after the other, each gets one public call, and each
-// result goes to standard output.
+// Cases come from standard input one after the other, each gets one public call, and each result goes to standard output.
+use case_form::Call;
 use case_form::Case;
 use io::write_all;
 use libc::STDERR_FILENO;
@@ -17,12 +17,13 @@ fn write_reading(out: &[u8; 17]) -> bool {
 }
 
 fn answer(s: State, ram: &mut [u8], rom: &[u8], tape: &[u8], log: &mut [u8], c: Case) -> bool {
-    if c.call == 4 {
+    let call = c.call;
+    if let Call::ReadLog = call {
         let rule = c.rule;
-        let out = super::reading(log, s.progress.log, rule);
+        let out = crate::call::reading(log, s.progress.log, rule);
         write_reading(&out)
     } else {
-        let out = super::result(s, ram, rom, tape, log, c);
+        let out = crate::call::result(s, ram, rom, tape, log, c);
         write_result(&out)
     }
 }
@@ -51,9 +52,9 @@ fn serve(
     if !case_bytes::kinds(patches, patches.len() / 6) {
         return unfit();
     }
-    super::lay_out(ram, c.fill, 0, patches);
-    super::lay_out(rom, c.fill, 1, patches);
-    super::lay_out(log, c.fill, 2, patches);
+    crate::call::lay_out(ram, c.fill, 0, patches);
+    crate::call::lay_out(rom, c.fill, 1, patches);
+    crate::call::lay_out(log, c.fill, 2, patches);
     answer(s, ram, rom, tape, log, c)
 }
 
@@ -80,24 +81,25 @@ fn lend(
     let t = c.tape;
     let l = c.log;
     let p = c.patches;
-    if ram.len() < m || rom.len() < n {
-        return unfit();
-    }
-    if tape.len() < t || log.len() < l {
-        return unfit();
-    }
-    if patches.len() / 6 < p {
-        return unfit();
-    }
-    serve(
-        s,
-        &mut ram[..m],
-        &mut rom[..n],
-        &mut tape[..t],
-        &mut log[..l],
-        &mut patches[..p * 6],
+    if case_form::fits(
         c,
-    )
+        ram.len(),
+        rom.len(),
+        tape.len(),
+        log.len(),
+        patches.len(),
+    ) {
+        return serve(
+            s,
+            &mut ram[..m],
+            &mut rom[..n],
+            &mut tape[..t],
+            &mut log[..l],
+            &mut patches[..p * 6],
+            c,
+        );
+    }
+    unfit()
 }
 
 // One case; whether to go on.

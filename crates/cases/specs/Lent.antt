@@ -5,8 +5,8 @@ use denote.Ref.{now}
 use Rattle.sheet.specs.declared.State.{State}
 use Rattle.mach_tally.specs.Lent.{Lent}
 use Rattle.case_form.specs.declared.Case.{Case}
-use Rattle.case_call.specs.declared.Done.{Done}
-use Rattle.case_call.specs.Called.{Called, Result}
+use Rattle.cases.specs.declared.call.Done.{Done}
+use Rattle.cases.specs.Called.{Called, Result}
 
 abbrev pub CalledOn : Case → State → Lent → Lent → Lent → Lent → Done → Type 0
 CalledOn c s ram rom tape log r =

@@ -1,14 +1,13 @@
 // What a case asks for: its buffers laid out, its call made, and the bytes of the result.
-pub mod stream;
-
+use case_form::Call;
 use case_form::Case;
 use sheet::Bus;
 use sheet::GapRule;
 use sheet::State;
 ghost use mathlib.Core.Path.{_≡_};
 ghost use Rattle.step_answer.specs.Lent.{StepsOn, RunsOn, InterruptsOn};
-ghost use Rattle.case_call.specs.Called.{stepsOf, resetAs, bytesOf, laid, Reading};
-ghost use Rattle.case_call.specs.Lent.{CalledOn, ResultOn};
+ghost use Rattle.cases.specs.Called.{stepsOf, resetAs, bytesOf, laid, Reading};
+ghost use Rattle.cases.specs.Lent.{CalledOn, ResultOn};
 
 // What the calls on the machine come to.
 struct Done {
@@ -103,17 +102,18 @@ fn reset() -> Done
     }
 }
 
-// The call of a case, of those on the machine.
+// The call of a case, of those on the machine; a log reading is none, and does not come here.
 fn called(s: State, ram: &mut [u8], rom: &[u8], tape: &[u8], log: &mut [u8], c: Case) -> Done
     ensures { λ r. ⌜ CalledOn c s ram rom tape log r ⌝ }
 {
     let call = c.call;
     match call {
-        0 => stepped(s, ram, rom, tape, log),
-        1 => ran(s, ram, rom, tape, log, c.budget),
-        2 => interrupted(s, ram, rom, tape, log, c.vector, c.maskable),
-        5 => quickly(s, ram, rom, tape, log, c.budget),
-        _ => reset(),
+        Call::Step => stepped(s, ram, rom, tape, log),
+        Call::Run => ran(s, ram, rom, tape, log, c.budget),
+        Call::Interrupt => interrupted(s, ram, rom, tape, log, c.vector, c.maskable),
+        Call::Reset => reset(),
+        Call::ReadLog => reset(),
+        Call::Quick => quickly(s, ram, rom, tape, log, c.budget),
     }
 }
 
@@ -125,10 +125,7 @@ fn bytes_of(d: Done, ram: &[u8], log: &[u8]) -> [u8; 88]
     let bus = d.bus;
     let of_ram = case_bytes::sum(ram);
     let of_log = case_bytes::sum(log);
-    let mut out = [0; 88];
-    case_form::put_call(&mut out, d.number, d.steps, bus, state);
-    case_form::put_sums(&mut out, of_ram, of_log);
-    out
+    case_form::result_of(d.number, d.steps, bus, state, of_ram, of_log)
 }
 
 // The bytes that answer such a call.

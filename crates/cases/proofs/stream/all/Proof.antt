@@ -1,10 +1,10 @@
--- `case_run::all` is safe and ends: turns are left, and the buffers keep their lengths.
+-- `stream::all` is safe and ends: turns are left, and the buffers keep their lengths.
 -- Assumes nothing.
 use mathlib.Core.Path.{_≡_, refl}
 use lib.ListN.{length}
 use borrow.Author.Needs.{needs}
-use Rattle.case_call.proofs.stream.all.Statement.{statement}
-use Rattle.case_call.proofs.stream.all.Tie as tie
+use Rattle.cases.proofs.stream.all.Statement.{statement}
+use Rattle.cases.proofs.stream.all.Tie as tie
 
 abbrev Inv-loop : tie.InvT-loop
 Inv-loop ram₀ rom₀ tape₀ log₀ patches₀ turns₀ ram rom tape log patches turns =

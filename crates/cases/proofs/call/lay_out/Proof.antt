@@ -1,7 +1,7 @@
-use Rattle.case_call.specs.Called.{laid}
+use Rattle.cases.specs.Called.{laid}
 use borrow.Author.Needs.{needs}
-use Rattle.case_call.proofs.lay_out.Statement.{statement}
-use Rattle.case_call.proofs.lay_out.Tie as tie
+use Rattle.cases.proofs.call.lay_out.Statement.{statement}
+use Rattle.cases.proofs.call.lay_out.Tie as tie
 
 returns : tie.Need-returns
 unfolding laid

@@ -1,6 +1,6 @@
 use borrow.Author.Tests.{eq-eqb, ne-eqb}
-use Rattle.case_call.proofs.steps_of.Statement.{statement}
-use Rattle.case_call.proofs.steps_of.Tie as tie
+use Rattle.cases.proofs.call.steps_of.Statement.{statement}
+use Rattle.cases.proofs.call.steps_of.Tie as tie
 
 returns : tie.Need-returns
 returns c = simp (eq-eqb _ _ (c .if1 .taken))

@@ -15,9 +15,10 @@ use Rattle.step_answer.specs.Steps.{Steps}
 use Rattle.step_answer.specs.Runs.{Runs}
 use Rattle.log_reader.specs.Answer.{Answers}
 use Rattle.case_bytes.specs.Buffers.{sumOf, patched}
+use Rattle.case_form.specs.declared.Call.the-variants.{Step, Run, Interrupt, Reset, Quick}
 use Rattle.case_form.specs.declared.Case.{Case}
-use Rattle.case_form.specs.Form.{withCall, withSums, withEntry}
-use Rattle.case_call.specs.declared.Done.{Done}
+use Rattle.case_form.specs.Form.{resultOf, withEntry}
+use Rattle.cases.specs.declared.call.Done.{Done}
 
 -- the steps that a step with this answer did
 abbrev pub stepsOf : ℕ → ℕ
@@ -26,18 +27,18 @@ stepsOf number = pick (eqb number 0) 1 0
 abbrev pub resetAs : Done
 resetAs = record { number = 0; steps = 0; state = definition.reset; bus = nothing }
 
--- the call of a case, by its number: 0 step, 1 run, 2 interrupt, 3 reset, 5 the quicker run
+-- the call of a case, of those on the machine
 pub record Called (c : Case) (s : State) (ram rom tape log : List ℕ) (d : Done) (ram′ log′ : List ℕ) : Type 0 where
-  pub step : c .call ≡ 0 → (d .steps ≡ stepsOf (d .number)) × Steps s ram rom tape log (d .number) (d .state) ram′ log′ (d .bus)
-  pub run : c .call ≡ 1 → Runs (c .budget) s ram rom tape log (d .number) (d .state) ram′ log′ (d .steps) (d .bus)
-  pub interrupt : c .call ≡ 2 → (d .steps ≡ 0) × (log′ ≡ log) × Interrupts (c .vector) (c .maskable) s ram rom tape log (d .number) (d .state) ram′ (d .bus)
-  pub quick : c .call ≡ 5 → Runs (c .budget) s ram rom tape log (d .number) (d .state) ram′ log′ (d .steps) (d .bus)
-  pub reset : c .call ≡ 3 → (d ≡ resetAs) × (ram′ ≡ ram) × (log′ ≡ log)
+  pub step : c .call ≡ Step → (d .steps ≡ stepsOf (d .number)) × Steps s ram rom tape log (d .number) (d .state) ram′ log′ (d .bus)
+  pub run : c .call ≡ Run → Runs (c .budget) s ram rom tape log (d .number) (d .state) ram′ log′ (d .steps) (d .bus)
+  pub interrupt : c .call ≡ Interrupt → (d .steps ≡ 0) × (log′ ≡ log) × Interrupts (c .vector) (c .maskable) s ram rom tape log (d .number) (d .state) ram′ (d .bus)
+  pub quick : c .call ≡ Quick → Runs (c .budget) s ram rom tape log (d .number) (d .state) ram′ log′ (d .steps) (d .bus)
+  pub reset : c .call ≡ Reset → (d ≡ resetAs) × (ram′ ≡ ram) × (log′ ≡ log)
 
 -- the bytes for what a call came to, with the sums of RAM and log after it
 unfoldable pub bytesOf : Done → List ℕ → List ℕ → List ℕ
 bytesOf d ram log =
-    withSums (sumOf 2166136261 ram) (sumOf 2166136261 log) (withCall (d .number) (d .steps) (d .bus) (d .state) (replicate 88 0))
+    resultOf (d .number) (d .steps) (d .bus) (d .state) (sumOf 2166136261 ram) (sumOf 2166136261 log)
 
 -- a result: the bytes for what the call comes to
 pub record Result (c : Case) (s : State) (ram rom tape log ram′ log′ out : List ℕ) : Type 0 where

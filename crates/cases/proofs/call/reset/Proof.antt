@@ -1,7 +1,7 @@
-use Rattle.case_call.proofs.Laws.{reset-as}
+use Rattle.cases.proofs.Laws.{reset-as}
 use borrow.Author.Needs.{needs}
-use Rattle.case_call.proofs.reset.Statement.{statement}
-use Rattle.case_call.proofs.reset.Tie as tie
+use Rattle.cases.proofs.call.reset.Statement.{statement}
+use Rattle.cases.proofs.call.reset.Tie as tie
 
 returns : tie.Need-returns
 returns c = search (reset-as, needs)
