@@ -1,11 +1,10 @@
-use Rattle.case_form.specs.Form.{withCall}
+use Rattle.case_form.proofs.Puts.{call-put}
 use borrow.Author.Needs.{needs}
 use Rattle.case_form.proofs.put_call.Statement.{statement}
 use Rattle.case_form.proofs.put_call.Tie as tie
 
 returns : tie.Need-returns
-unfolding withCall
-returns c = cc
+returns c = search (call-put, needs)
 
 pub put-call-spec : {M : Type 1} → statement M
 put-call-spec =

@@ -1,11 +1,10 @@
-use Rattle.case_form.specs.Form.{withPlaces}
+use Rattle.case_form.proofs.Puts.{places-put}
 use borrow.Author.Needs.{needs}
 use Rattle.case_form.proofs.put_places.Statement.{statement}
 use Rattle.case_form.proofs.put_places.Tie as tie
 
 returns : tie.Need-returns
-unfolding withPlaces
-returns c = cc
+returns c = search (places-put, needs)
 
 pub put-places-spec : {M : Type 1} → statement M
 put-places-spec =

@@ -1,11 +1,10 @@
-use Rattle.case_form.specs.Form.{withRecord}
+use Rattle.case_form.proofs.Puts.{record-put}
 use borrow.Author.Needs.{needs}
 use Rattle.case_form.proofs.put_record.Statement.{statement}
 use Rattle.case_form.proofs.put_record.Tie as tie
 
 returns : tie.Need-returns
-unfolding withRecord
-returns c = cc
+returns c = search (record-put, needs)
 
 pub put-record-spec : {M : Type 1} → statement M
 put-record-spec =
