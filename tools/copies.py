@@ -1,8 +1,8 @@
 """Functions of a crate under a second name, for tools/refusals.
 
 A copy stands behind the functions of its file and has the contract and the proof of the one that it was copied from. Nothing calls it, so that
-a wrong copy fails alone, copies with different edits can be tried in one check, and no caller is proved anew. What is proved of a function
-is proved of its copy, but for the name: only functions whose proof can be copied under another name are.
+a wrong copy fails alone, copies with different edits can be tried in one check, and no caller is proved anew. A copy without an edit is proved as
+its function is, but for the name: only functions are copied whose proofs can be copied under another name.
 """
 import os
 import re
@@ -39,8 +39,8 @@ def has_own_proof(root, steps, function):
     folder, path = '/'.join([f'{root}/proofs', *steps, function]), ['proofs', *steps, function]
     for below, _, files in os.walk(f'{root}/proofs'):
         for text in (read(f'{below}/{file}') for file in files):
-            for named in re.findall(r'Rattle·\w+·proofs\.([^\s;,(){}]+)', text):
-                named = named.rstrip('.').split('.')
+            for named in re.findall(r'Rattle·\w+·proofs((?:\.[^\s.;,(){}]+)*)', text):
+                named = named.split('.')[1:]
                 above, inside = path[:len(named)] == named and named != path, named[:len(path)] == path
                 if above or inside and not f'{below}/'.startswith(f'{folder}/'):
                     return False
@@ -70,8 +70,8 @@ def add_proof(root, steps, function, name):
     own = re.escape('.'.join(['proofs.proofs', *steps, '']))
     for below, _, files in os.walk(f'{folder}/{name}'):
         for path in (f'{below}/{file}' for file in files):
-            text = re.sub(rf'({own}){function}(?=[.\s])', rf'\g<1>{name}', read(path))
-            text = re.sub(rf'(?<![\w-]){in_words(function)}-spec\b', f'{in_words(name)}-spec', text)
+            text = re.sub(rf'({own}){function}(?![\w-])', rf'\g<1>{name}', read(path))
+            text = re.sub(rf'(?<![\w.-]){in_words(function)}-spec(?![\w-])', f'{in_words(name)}-spec', text)
             with open(path, 'w', encoding='utf8') as out:
                 out.write(text)
 

@@ -17,9 +17,9 @@ pub fn push(file: &mut [u16; 14], ram: &mut [u8], rom: &[u8], v: u16) -> Bus
     ensures { λ r. ⌜ Does (tree.cardPush v) file ram rom r 2 ⌝ }
 {
     let bp = calc_word::minus16(file[BP], 2);
-    let ds0 = file[DS0];
+    let segment = file[DS0];
     file[BP] = bp;
-    mach_memory::store(true, ram, ds0, bp, v)
+    mach_memory::store(true, ram, segment, bp, v)
 }
 
 pub fn pop(file: &mut [u16; 14], ram: &[u8], rom: &[u8]) -> Loaded
