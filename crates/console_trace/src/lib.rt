@@ -1,5 +1,6 @@
 // What a person sees of a machine: the instruction at PS:PC in the listing's words, registers and flags by name, and the line of a step.
 // Texts go into lines of 80 bytes, where what does not fit is left out.
+mod registers;
 pub mod seen;
 pub mod target;
 
@@ -14,12 +15,10 @@ use mach_registers::PS;
 use mach_registers::PSW;
 use mach_registers::SP;
 use mach_registers::SS;
-use rom_mnemonic::Operand;
 use sheet::Entry;
 use sheet::GapRule;
 use sheet::Instr;
 use sheet::State;
-ghost use Prim.Native.Nat.{_<_};
 
 // A line of spaces.
 pub fn blank() -> [u8; 80] {
@@ -144,98 +143,6 @@ fn put_there(line: &mut [u8; 80], at: usize, file: [u16; 14], ram: &[u8], rom: &
     put_decoded(line, y, file, ram, rom)
 }
 
-// ---- registers and flags
-
-// A register by its number.
-fn register(number: u8) -> Operand {
-    if number < 8 {
-        return Operand::Reg { word: true, number };
-    }
-    Operand::Seg(number - 8)
-}
-
-fn put_register(line: &mut [u8; 80], at: usize, number: u8, value: u16) -> usize {
-    let x = put_byte(line, at, b' ');
-    let name = register(number);
-    let y = rom_mnemonic::put_after(line, x, name);
-    let z = put_byte(line, y, b' ');
-    put_hex(line, z, value as u64, 4)
-}
-
-// Of the registers from one number up to another those that changed, or all.
-fn put_span(
-    line: &mut [u8; 80],
-    at: usize,
-    from: u8,
-    to: u8,
-    a: [u16; 14],
-    b: [u16; 14],
-    always: bool,
-) -> usize
-    requires { ⌜ to < 14 ⌝ }
-{
-    let mut end = at;
-    let mut n = from;
-    while n < to {
-        let i = n as usize;
-        if (a[i] != b[i]) | always {
-            end = put_register(line, end, n, b[i]);
-        }
-        n = n + 1;
-    }
-    end
-}
-
-// The segment registers: PS, SS, DS0 and last DS1, whose number is the lowest.
-fn put_segments(line: &mut [u8; 80], at: usize, a: [u16; 14], b: [u16; 14], always: bool) -> usize {
-    let x = put_span(line, at, 9, 12, a, b, always);
-    put_span(line, x, 8, 9, a, b, always)
-}
-
-// The registers that changed, without PC and PSW.
-fn put_registers(line: &mut [u8; 80], at: usize, a: [u16; 14], b: [u16; 14]) -> usize {
-    let x = put_span(line, at, 0, 8, a, b, false);
-    put_segments(line, x, a, b, false)
-}
-
-// A flag, whose bit has this weight: where it has changed, or always.
-fn put_flag(
-    line: &mut [u8; 80],
-    at: usize,
-    name: &[u8],
-    weight: u16,
-    a: u16,
-    b: u16,
-    always: bool,
-) -> usize
-    requires { ⌜ 0 < weight ⌝ }
-{
-    let new = b / weight % 2;
-    if (a / weight % 2 == new) & !always {
-        return at;
-    }
-    let x = put_word(line, at, name);
-    put_hex(line, x, new as u64, 1)
-}
-
-fn put_low_flags(line: &mut [u8; 80], at: usize, a: u16, b: u16, always: bool) -> usize {
-    let x = put_flag(line, at, b"  S ", 128, a, b, always);
-    let y = put_flag(line, x, b"  Z ", 64, a, b, always);
-    let z = put_flag(line, y, b"  AC ", 16, a, b, always);
-    let p = put_flag(line, z, b"  P ", 4, a, b, always);
-    put_flag(line, p, b"  CY ", 1, a, b, always)
-}
-
-// The flags of PSW by name: those that changed, or all; the mode where it changed.
-fn put_flags(line: &mut [u8; 80], at: usize, a: u16, b: u16, always: bool) -> usize {
-    let w = put_flag(line, at, b"  MD ", 32768, a, b, false);
-    let x = put_flag(line, w, b"  V ", 2048, a, b, always);
-    let y = put_flag(line, x, b"  DIR ", 1024, a, b, always);
-    let z = put_flag(line, y, b"  IE ", 512, a, b, always);
-    let p = put_flag(line, z, b"  BRK ", 256, a, b, always);
-    put_low_flags(line, p, a, b, always)
-}
-
 // ---- what a step did outside the registers
 
 // The bus cycles of a step or a call, the bytes that it dropped, and where it writes.
@@ -321,7 +228,7 @@ fn put_effects(
 ) -> usize {
     let a = s.file;
     let b = t.file;
-    let x = put_flags(line, at, a[PSW], b[PSW], false);
+    let x = registers::put_flags(line, at, a[PSW], b[PSW], false);
     let y = put_cycles(line, x, cycles);
     put_port(line, y, log, s.progress.log, t.progress.log)
 }
@@ -369,7 +276,7 @@ fn write_line(words: [u8; 80], end: usize, s: State, t: State, bus: Traffic, log
     let a = s.file;
     let b = t.file;
     let mut changes = blank();
-    let n = put_registers(&mut changes, 0, a, b);
+    let n = registers::put_registers(&mut changes, 0, a, b);
     let mut effects = blank();
     let m = put_effects(&mut effects, 0, s, t, bus.cycles, log);
     let mut drops = blank();
@@ -429,14 +336,14 @@ fn write_behind(fd: i32, line: [u8; 80], end: usize) -> bool {
 // All registers: two lines.
 pub fn write_registers(fd: i32, file: [u16; 14]) -> bool {
     let mut general = blank();
-    let n = put_span(&mut general, 0, 0, 8, file, file, true);
+    let n = registers::put_span(&mut general, 0, 0, 8, file, file, true);
     let stop = put_byte(&mut general, n, b'\n');
     write_behind(fd, general, stop) & write_others(fd, file)
 }
 
 fn write_others(fd: i32, file: [u16; 14]) -> bool {
     let mut line = blank();
-    let x = put_segments(&mut line, 0, file, file, true);
+    let x = registers::put_segments(&mut line, 0, file, file, true);
     let y = put_word(&mut line, x, b"  PC ");
     let z = put_hex(&mut line, y, file[PC] as u64, 4);
     let p = put_word(&mut line, z, b"  PSW ");
@@ -451,7 +358,7 @@ pub fn write_stand(fd: i32, s: State, ram: &[u8], rom: &[u8]) -> bool {
     let psw = file[PSW];
     let mut flags = blank();
     let x = put_word(&mut flags, 0, b"flags");
-    let y = put_flags(&mut flags, x, psw, psw, true);
+    let y = registers::put_flags(&mut flags, x, psw, psw, true);
     let n = put_byte(&mut flags, y, b'\n');
     write(fd, flags, n) & write_next(fd, file, ram, rom)
 }

@@ -2,8 +2,8 @@
 use Prim.Native.Nat.{_≤_, _-_}
 use native.Mathlib.Omega.{arith}
 use borrow.Author.Needs.{needs}
-use Rattle.console_trace.proofs.put_span.Statement.{statement}
-use Rattle.console_trace.proofs.put_span.Tie as tie
+use Rattle.console_trace.proofs.registers.put_span.Statement.{statement}
+use Rattle.console_trace.proofs.registers.put_span.Tie as tie
 
 abbrev Inv-loop : tie.InvT-loop
 Inv-loop line₀ at from to always a b end₀ n₀ line end n = n₀ ≤ n
