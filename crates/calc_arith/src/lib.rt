@@ -11,7 +11,7 @@ use calc_word::{digit, modulus, sign, wrap};
 use sheet::{Flagged, Operation, Unary};
 
 // A value with the flags that do not follow from it.
-#[derive(Drop)]
+#[derive(Clone, Copy)]
 struct Outcome {
     value: u16,
     ac: bool,

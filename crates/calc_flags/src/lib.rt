@@ -5,7 +5,7 @@ ghost use Rattle.calc_flags.specs.Flags.{held, unpacked};
 
 use calc_word::digit;
 
-#[derive(Drop)]
+#[derive(Clone, Copy)]
 pub struct Flags {
     pub cy: bool,
     pub p: bool,

@@ -89,7 +89,7 @@ fn rule_of(header: &[u8; 72]) -> GapRule
 }
 
 // The calls that a case can ask for; `Quick` is the quicker run.
-#[derive(Drop)]
+#[derive(Clone, Copy)]
 pub enum Call {
     Step,
     Run,
@@ -114,7 +114,7 @@ fn call_of(number: u8) -> Call
 }
 
 // The rest of a header: the call with its arguments, the lengths of the buffers, the number of patches, the byte to fill with.
-#[derive(Drop)]
+#[derive(Clone, Copy)]
 pub struct Case {
     pub call: Call,
     pub maskable: bool,

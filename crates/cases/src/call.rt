@@ -8,7 +8,7 @@ use case_form::{Call, Case};
 use sheet::{Bus, GapRule, State};
 
 // What the calls on the machine come to.
-#[derive(Drop)]
+#[derive(Clone, Copy)]
 struct Done {
     pub number: u8,
     pub steps: u32,

@@ -10,7 +10,7 @@ use sheet::cards::{Card, CardArithmetic, CardBranch, CardMode, CardPoint, CardSt
 use sheet::{Address, Control, Io, Operation, Place, Transfer};
 
 // An instruction of the 8080 mode and how many bytes it has, or the refusal's number.
-#[derive(Drop)]
+#[derive(Clone, Copy)]
 pub enum CardDecoded {
     Known { card: Card, size: u16 },
     Unknown { number: u8 },

@@ -11,7 +11,7 @@ use sheet::{
 };
 
 // An instruction and how many bytes it has, or the refusal's number.
-#[derive(Drop)]
+#[derive(Clone, Copy)]
 pub enum Decoded {
     Known { instr: Instr, size: u16 },
     Unknown { number: u8 },

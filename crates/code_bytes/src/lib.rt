@@ -6,14 +6,14 @@ ghost use Rattle.sheet.specs.Contract.{Reads};
 ghost use Rattle.code_answer.specs.Answer.{Takes};
 
 // A number that was read, and how many bytes were read then.
-#[derive(Drop)]
+#[derive(Clone, Copy)]
 pub struct NumberRead {
     pub value: u16,
     pub next: u16,
 }
 
 // An address with its segment.
-#[derive(Drop)]
+#[derive(Clone, Copy)]
 pub struct FarRead {
     pub offset: u16,
     pub segment: u16,

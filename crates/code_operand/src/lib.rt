@@ -18,14 +18,14 @@ use sheet::{Address, Operation, Override, Place, Prefixes, Primitive, Shift};
 // The number of DS0, the segment of most operands.
 const DS0: u8 = 3;
 
-#[derive(Drop)]
+#[derive(Clone, Copy)]
 struct AddressRead {
     pub address: Address,
     pub next: u16,
 }
 
 // What a mod-reg-mem byte names: its reg field, and the operand of its other fields.
-#[derive(Drop)]
+#[derive(Clone, Copy)]
 pub struct OperandsRead {
     pub reg: u8,
     pub place: Place,

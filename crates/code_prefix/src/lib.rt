@@ -21,14 +21,14 @@ const DS0: u8 = 3;
 const MOST: u16 = 3;
 
 // Whether a byte is a prefix, and what all prefixes say then.
-#[derive(Drop)]
+#[derive(Clone, Copy)]
 struct Found {
     pub prefix: bool,
     pub prefixes: Prefixes,
 }
 
 // Where an instruction begins after its prefixes: its first byte and how many bytes were read then, or a fourth prefix.
-#[derive(Drop)]
+#[derive(Clone, Copy)]
 pub struct Opening {
     pub fourth: bool,
     pub prefixes: Prefixes,

@@ -2,7 +2,7 @@
 use console_files::Output;
 use console_turns::Session;
 
-#[derive(Drop)]
+#[derive(Clone, Copy)]
 pub struct Files {
     pub log: Output,
     pub ram: Output,

@@ -7,7 +7,7 @@ use mach_registers::{PC, PS};
 use std::num::{wrapping_add_u64, wrapping_sub_u64};
 
 // Whether addresses are counted, the first and the last step that are printed, and whether of these only those that dropped a byte.
-#[derive(Drop)]
+#[derive(Clone, Copy)]
 pub struct Watch {
     pub counts: bool,
     pub from: u64,

@@ -35,7 +35,7 @@ pub fn within_calls(n: usize, calls: &[u64]) -> usize
 }
 
 // What was read: whether it could be, and how many bytes.
-#[derive(Drop)]
+#[derive(Clone, Copy)]
 pub struct Loaded {
     pub ok: bool,
     pub len: usize,
@@ -104,7 +104,7 @@ pub fn number(index: usize) -> u64 {
 }
 
 // A file that is to be written: whether all is well so far, whether one is wanted, and its descriptor.
-#[derive(Drop)]
+#[derive(Clone, Copy)]
 pub struct Output {
     pub ok: bool,
     pub wanted: bool,
@@ -172,7 +172,7 @@ pub fn keep(out: Output, what: &[u8], bytes: &[u8], used: usize) -> bool {
 }
 
 // The second that was seen last, and how many have changed since the last line.
-#[derive(Drop)]
+#[derive(Clone, Copy)]
 pub struct Clock {
     pub second: i64,
     pub changes: u8,

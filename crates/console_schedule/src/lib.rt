@@ -59,7 +59,7 @@ fn is_blank(b: u8) -> bool {
 }
 
 // What a search of a text stops at.
-#[derive(Drop)]
+#[derive(Clone, Copy)]
 enum Stop {
     Word,
     Gap,
@@ -98,7 +98,7 @@ fn is_over(text: &[u8], at: usize) -> bool {
 }
 
 // What a line says: a call as one number, step x 512 + vector x 2 + 1 where it may be masked.
-#[derive(Drop)]
+#[derive(Clone, Copy)]
 enum Line {
     Call(u64),
     Nothing,
@@ -150,7 +150,7 @@ fn said(text: &[u8]) -> Line {
 }
 
 // What is wrong with a line: it says nothing known, its step is before the last line's, there is no room for its call.
-#[derive(Drop)]
+#[derive(Clone, Copy)]
 pub enum Fault {
     None,
     Unknown,
@@ -159,7 +159,7 @@ pub enum Fault {
 }
 
 // The calls so far, and the fault of the last line.
-#[derive(Drop)]
+#[derive(Clone, Copy)]
 pub struct Schedule {
     pub calls: usize,
     pub lines: usize,

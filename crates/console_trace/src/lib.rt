@@ -83,7 +83,7 @@ fn put_behind(
 }
 
 // Where the text of an instruction ends, and where the instruction writes.
-#[derive(Drop)]
+#[derive(Clone, Copy)]
 struct There {
     end: usize,
     to: usize,
@@ -137,7 +137,7 @@ fn put_there(line: &mut [u8; 80], at: usize, file: [u16; 14], ram: &[u8], rom: &
 // ---- what a step did outside the registers
 
 // The bus cycles of a step or a call, the bytes that it dropped, and where it writes.
-#[derive(Drop)]
+#[derive(Clone, Copy)]
 pub struct Traffic {
     pub cycles: u64,
     pub dropped: u64,
@@ -236,7 +236,7 @@ fn column(end: usize) -> usize {
 }
 
 // The words of a step that is to be done: their line, where they end, and where the step writes.
-#[derive(Drop)]
+#[derive(Clone, Copy)]
 pub struct Words {
     pub line: [u8; 80],
     pub end: usize,

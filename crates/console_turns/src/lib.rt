@@ -12,7 +12,7 @@ use step_answer::{Answer, Ran};
 
 // How a session is played: its limit of steps, whether its runs are single steps, the address that ends it (1048576 is none), and whether
 // the log is kept.
-#[derive(Drop)]
+#[derive(Clone, Copy)]
 pub struct Plan {
     pub limit: u64,
     pub single: bool,
@@ -22,7 +22,7 @@ pub struct Plan {
 
 // A session's stand: the number of its last run, the machine, sums, how many of the scheduled calls were made and refused, and how many
 // bytes of the log were let go. Sums are taken modulo 2^64, which 10^11 steps of 1,028 cycles do not reach.
-#[derive(Drop)]
+#[derive(Clone, Copy)]
 pub struct Session {
     pub number: u8,
     pub state: State,
@@ -90,7 +90,7 @@ pub fn budget(steps: u64, limit: u64, due: u64, single: bool) -> u16
 }
 
 // The next call of the schedule, where one waits; without one none is ever due.
-#[derive(Drop)]
+#[derive(Clone, Copy)]
 pub struct Next {
     pub waits: bool,
     pub due: u64,

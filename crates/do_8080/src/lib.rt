@@ -9,7 +9,7 @@ use sheet::cards::Card;
 use sheet::{Bus, Marks, Progress};
 
 // What an instruction came to: the refusal's number, the marks, the places, the bus.
-#[derive(Drop)]
+#[derive(Clone, Copy)]
 pub struct Carded {
     pub number: u8,
     pub marks: Marks,

@@ -70,7 +70,7 @@ fn stm(file: &mut [u16; 14], ram: &mut [u8], rom: &[u8], word: bool, seg: u8) ->
 }
 
 // The primitives for which the memory is enough.
-#[derive(Drop)]
+#[derive(Clone, Copy)]
 pub enum Portless {
     Movbk,
     Cmpbk,

@@ -9,14 +9,14 @@ use mach_registers::{CW, DS1, IX, IY, PSW};
 use sheet::{Bus, Chain, Decimal, Place, Storing, Way};
 
 // What goes on to the next byte, and what the accesses so far came to.
-#[derive(Drop)]
+#[derive(Clone, Copy)]
 struct Linked {
     chain: Chain,
     bus: Bus,
 }
 
 // A byte of each string, and what reading them came to.
-#[derive(Drop)]
+#[derive(Clone, Copy)]
 struct Bytes {
     to: u16,
     from: u16,

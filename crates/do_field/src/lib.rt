@@ -85,7 +85,7 @@ fn ins(file: &mut [u16; 14], ram: &mut [u8], rom: &[u8], offset: u8, length: Len
 }
 
 // One word of memory or two, and what reading came to.
-#[derive(Drop)]
+#[derive(Clone, Copy)]
 struct Words {
     bits: u32,
     bus: Bus,

@@ -10,7 +10,7 @@ use sheet::cards::CardMode;
 use sheet::{Bus, Marks, Mode};
 
 // The marks afterwards, and the accesses.
-#[derive(Drop)]
+#[derive(Clone, Copy)]
 pub struct Moded {
     pub marks: Marks,
     pub bus: Bus,

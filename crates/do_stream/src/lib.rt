@@ -73,7 +73,7 @@ fn outm(
 }
 
 // The primitives that use a port.
-#[derive(Drop)]
+#[derive(Clone, Copy)]
 pub enum Streaming {
     Inm,
     Outm,

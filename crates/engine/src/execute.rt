@@ -12,7 +12,7 @@ use sheet::cards::Card;
 use sheet::{Bus, Instr, Marks, Progress};
 
 // What an instruction came to: the refusal's number, whether it took a trap itself, the marks, the places, the bus.
-#[derive(Drop)]
+#[derive(Clone, Copy)]
 pub struct Performed {
     pub number: u8,
     pub trapped: bool,

@@ -9,7 +9,7 @@ use mach_registers::{PC, PSW};
 use sheet::{Bus, Instr, Marks, Progress};
 
 // What came of an instruction: its number, and where it is not refused the marks, the places and the bus.
-#[derive(Drop)]
+#[derive(Clone, Copy)]
 pub struct Stepped {
     pub number: u8,
     pub marks: Marks,

@@ -78,7 +78,7 @@ fn segment_after(g: usize, s: &[u8]) -> usize
 }
 
 // What a line without a fault is passed with: its kind, its characters, and the segment behind it.
-#[derive(Drop)]
+#[derive(Clone, Copy)]
 pub struct Passed {
     pub kind: usize,
     pub span: usize,

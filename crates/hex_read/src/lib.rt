@@ -7,7 +7,7 @@ use hex_fault::{fault_of, is_inside, pass, place_of};
 use hex_line::{byte_at, kind_of, size_of};
 
 // 0, or the number and the line of a refusal.
-#[derive(Drop)]
+#[derive(Clone, Copy)]
 pub struct Checked {
     pub number: u8,
     pub line: usize,

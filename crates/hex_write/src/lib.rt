@@ -100,7 +100,7 @@ fn measure(base: usize, image: &[u8]) -> usize
 }
 
 // How a writing ended: 0, with the text's length, 12 or 6.
-#[derive(Drop)]
+#[derive(Clone, Copy)]
 pub struct Written {
     pub number: u8,
     pub len: usize,

@@ -66,7 +66,7 @@ pub fn set_target(word: bool, file: &[u16; 14], ram: &mut [u8], rom: &[u8], v: u
 // ---- repeats
 
 // What a block instruction has to do with CW as it is.
-#[derive(Drop)]
+#[derive(Clone, Copy)]
 pub enum Due {
     Nothing,
     Single,

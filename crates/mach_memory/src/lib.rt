@@ -71,7 +71,7 @@ pub fn write(word: bool, ram: &mut [u8], base: u16, offset: u16, v: u16) -> u32
 }
 
 // A number that was read, and what reading it came to on the bus.
-#[derive(Drop)]
+#[derive(Clone, Copy)]
 pub struct Loaded {
     pub value: u16,
     pub bus: Bus,

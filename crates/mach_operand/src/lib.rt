@@ -118,7 +118,7 @@ pub fn source_value(word: bool, file: &[u16; 14], ram: &[u8], rom: &[u8], source
 }
 
 // The two words of a 32-bit operand, and what reading them came to.
-#[derive(Drop)]
+#[derive(Clone, Copy)]
 pub struct Pair {
     pub low: u16,
     pub high: u16,

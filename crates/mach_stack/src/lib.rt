@@ -48,7 +48,7 @@ fn save(file: &mut [u16; 14], ram: &mut [u8], rom: &[u8], x: u16) -> Bus
 }
 
 // Where a vector points.
-#[derive(Drop)]
+#[derive(Clone, Copy)]
 struct Target {
     pub pc: u16,
     pub ps: u16,
@@ -69,7 +69,7 @@ fn vector(ram: &[u8], rom: &[u8], v: u8) -> Target
 }
 
 // Whether an instruction took a trap itself, and its accesses.
-#[derive(Drop)]
+#[derive(Clone, Copy)]
 pub struct Worked {
     pub trapped: bool,
     pub bus: Bus,

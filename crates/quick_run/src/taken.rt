@@ -32,7 +32,7 @@ pub fn interrupt(
     step_calls::interrupt(s, ram, rom, tape, log, vector, maskable)
 }
 
-#[derive(Drop)]
+#[derive(Clone, Copy)]
 pub struct Both {
     pub general: Ran,
     pub quick: Ran,

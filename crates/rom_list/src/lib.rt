@@ -63,7 +63,7 @@ fn put_lines(out: &mut [u8], image: &[u8]) -> usize
 }
 
 // How a listing ended: 0, with its length, 17 or 6.
-#[derive(Drop)]
+#[derive(Clone, Copy)]
 pub struct Listed {
     pub number: u8,
     pub len: usize,

@@ -70,7 +70,7 @@ fn put_data_line(line: &mut [u8; 80], a: u32, bytes: &[u8], b: u8) -> usize
 }
 
 // A line's bytes of text, and the bytes of the image that it names.
-#[derive(Drop)]
+#[derive(Clone, Copy)]
 pub struct Made {
     pub len: usize,
     pub size: usize,

@@ -55,7 +55,7 @@ fn high_after(column: usize, high: u8, c: u8) -> u8
 }
 
 // Whether the image had the room, and how long it is.
-#[derive(Drop)]
+#[derive(Clone, Copy)]
 struct Restored {
     pub fits: bool,
     pub len: usize,
@@ -113,7 +113,7 @@ fn begins(s: &[u8], x: &[u8]) -> bool
 }
 
 // Whether lines go on with the line at an address; its bytes of text, and the bytes of the image that it names.
-#[derive(Drop)]
+#[derive(Clone, Copy)]
 struct Compared {
     same: bool,
     len: usize,
@@ -153,7 +153,7 @@ fn agrees(lines: &[u8], image: &[u8]) -> bool
 }
 
 // How a rebuilding ended: 0, with the image's length, 16 or 6.
-#[derive(Drop)]
+#[derive(Clone, Copy)]
 pub struct Rebuilt {
     pub number: u8,
     pub len: usize,

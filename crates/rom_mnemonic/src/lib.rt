@@ -10,7 +10,7 @@ use base_line::{put_byte, put_hex, put_word};
 use sheet::{Address, Amount, Form, Index, Length, Place, Places, Port, Source};
 
 // How much stands at an address: an address alone, a byte, a word, or a pointer of two words.
-#[derive(Drop)]
+#[derive(Clone, Copy)]
 pub enum Size {
     Unsaid,
     Byte,
@@ -19,7 +19,7 @@ pub enum Size {
 }
 
 // An operand as it is typed. Registers are numbered as in Tables 8-6 and 8-7.
-#[derive(Drop)]
+#[derive(Clone, Copy)]
 pub enum Operand {
     Reg { word: bool, number: u8 },
     Seg(u8),

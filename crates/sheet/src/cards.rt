@@ -2,13 +2,13 @@
 use crate::{Control, Io, Operation, Place, Shift, Source, Transfer};
 
 // LDAX and STAX: AL and the byte that a pair points at.
-#[derive(Drop)]
+#[derive(Clone, Copy)]
 pub enum CardPoint {
     Ldax { pair: u8 },
     Stax { pair: u8 },
 }
 
-#[derive(Drop)]
+#[derive(Clone, Copy)]
 pub enum CardArithmetic {
     // AL and a source: ADD to CMP, ADI to CPI
     Two { op: Operation, from: Source },
@@ -24,7 +24,7 @@ pub enum CardArithmetic {
 }
 
 // The conditions are native ones, by the low four bits of 70 to 7F.
-#[derive(Drop)]
+#[derive(Clone, Copy)]
 pub enum CardBranch {
     Jmp { to: u16 },
     JumpIf { condition: u8, to: u16 },
@@ -36,7 +36,7 @@ pub enum CardBranch {
     Pchl,
 }
 
-#[derive(Drop)]
+#[derive(Clone, Copy)]
 pub enum CardStack {
     Push { pair: u8 },
     PushPsw,
@@ -46,13 +46,13 @@ pub enum CardStack {
 }
 
 // What changes the mode.
-#[derive(Drop)]
+#[derive(Clone, Copy)]
 pub enum CardMode {
     Calln { vector: u8 },
     Retem,
 }
 
-#[derive(Drop)]
+#[derive(Clone, Copy)]
 pub enum Card {
     // native instructions
     Transfers(Transfer),

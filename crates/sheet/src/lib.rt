@@ -5,7 +5,7 @@ use cards::Card;
 
 // ---- the machine
 
-#[derive(Drop)]
+#[derive(Clone, Copy)]
 pub struct State {
     // AW CW DW BW SP BP IX IY DS1 PS SS DS0 PC PSW
     pub file: [u16; 14],
@@ -13,7 +13,7 @@ pub struct State {
     pub progress: Progress,
 }
 
-#[derive(Drop)]
+#[derive(Clone, Copy)]
 pub struct Marks {
     pub halted: bool,
     // the last finished step loaded a segment register
@@ -23,7 +23,7 @@ pub struct Marks {
 }
 
 // What of a state the ports move.
-#[derive(Drop)]
+#[derive(Clone, Copy)]
 pub struct Progress {
     // the places in the port tape and in the log
     pub tape: usize,
@@ -33,7 +33,7 @@ pub struct Progress {
 }
 
 // What data accesses come to.
-#[derive(Drop)]
+#[derive(Clone, Copy)]
 pub struct Bus {
     pub cycles: u32,
     // bytes that were written outside RAM
@@ -43,14 +43,14 @@ pub struct Bus {
 // ---- operands
 
 // The index register of an address form, where it has one.
-#[derive(Drop)]
+#[derive(Clone, Copy)]
 pub enum Index {
     Of(u8),
     Nothing,
 }
 
 // One of the eight address forms: base register, index register, default segment.
-#[derive(Drop)]
+#[derive(Clone, Copy)]
 pub struct Form {
     pub base: u8,
     pub index: Index,
@@ -58,34 +58,34 @@ pub struct Form {
 }
 
 // A memory operand. Segments are numbered as in Table 8-7: 0 DS1, 1 PS, 2 SS, 3 DS0.
-#[derive(Drop)]
+#[derive(Clone, Copy)]
 pub enum Address {
     Formed { seg: u8, form: u8, disp: u16 },
     Direct { seg: u8, offset: u16 },
 }
 
 // What mod and mem name: a register of the operand's width, or memory.
-#[derive(Drop)]
+#[derive(Clone, Copy)]
 pub enum Place {
     Register(u8),
     Memory(Address),
 }
 
-#[derive(Drop)]
+#[derive(Clone, Copy)]
 pub enum Source {
     Held(Place),
     Immediate(u16),
 }
 
 // A place whose address has been computed.
-#[derive(Drop)]
+#[derive(Clone, Copy)]
 pub enum Spot {
     InRegister(u8),
     InMemory { base: u16, offset: u16 },
 }
 
 // A number that stands in CL or follows in the instruction.
-#[derive(Drop)]
+#[derive(Clone, Copy)]
 pub enum Amount {
     InCl,
     Given(u8),
@@ -93,7 +93,7 @@ pub enum Amount {
 
 // ---- instructions, in groups after those of section 8
 
-#[derive(Drop)]
+#[derive(Clone, Copy)]
 pub enum Transfer {
     Mov { word: bool, to: Place, from: Source },
     LoadAcc { word: bool, from: Address },
@@ -109,7 +109,7 @@ pub enum Transfer {
 }
 
 // In the order of the reg field of 80 to 83.
-#[derive(Drop)]
+#[derive(Clone, Copy)]
 pub enum Operation {
     Add,
     Or,
@@ -121,7 +121,7 @@ pub enum Operation {
     Cmp,
 }
 
-#[derive(Drop)]
+#[derive(Clone, Copy)]
 pub enum Unary {
     Inc,
     Dec,
@@ -129,7 +129,7 @@ pub enum Unary {
     Neg,
 }
 
-#[derive(Drop)]
+#[derive(Clone, Copy)]
 pub enum Arithmetic {
     Two {
         op: Operation,
@@ -149,7 +149,7 @@ pub enum Arithmetic {
     },
 }
 
-#[derive(Drop)]
+#[derive(Clone, Copy)]
 pub enum Multiply {
     Mulu { word: bool, by: Place },
     Mul { word: bool, by: Place },
@@ -159,7 +159,7 @@ pub enum Multiply {
     Div { word: bool, by: Place },
 }
 
-#[derive(Drop)]
+#[derive(Clone, Copy)]
 pub enum Convert {
     Adjba,
     Adj4a,
@@ -172,7 +172,7 @@ pub enum Convert {
 }
 
 // In the order of the reg field of C0, C1, D0 to D3, of which 6 is unused.
-#[derive(Drop)]
+#[derive(Clone, Copy)]
 pub enum Shift {
     Rol,
     Ror,
@@ -184,13 +184,13 @@ pub enum Shift {
 }
 
 // How many places: the fixed 1, or an amount.
-#[derive(Drop)]
+#[derive(Clone, Copy)]
 pub enum Places {
     One,
     Counted(Amount),
 }
 
-#[derive(Drop)]
+#[derive(Clone, Copy)]
 pub enum Bit {
     Test1,
     Clr1,
@@ -198,7 +198,7 @@ pub enum Bit {
     Not1,
 }
 
-#[derive(Drop)]
+#[derive(Clone, Copy)]
 pub enum Decimal {
     Add4s { seg: u8 },
     Sub4s { seg: u8 },
@@ -208,19 +208,19 @@ pub enum Decimal {
 }
 
 // The length of a bit field: in a byte register, or given.
-#[derive(Drop)]
+#[derive(Clone, Copy)]
 pub enum Length {
     InRegister(u8),
     Given(u8),
 }
 
-#[derive(Drop)]
+#[derive(Clone, Copy)]
 pub enum Field {
     Ins { offset: u8, length: Length },
     Ext { seg: u8, offset: u8, length: Length },
 }
 
-#[derive(Drop)]
+#[derive(Clone, Copy)]
 pub enum Stack {
     Push { from: Place },
     PushByte { value: u16 },
@@ -235,7 +235,7 @@ pub enum Stack {
     Dispose,
 }
 
-#[derive(Drop)]
+#[derive(Clone, Copy)]
 pub enum Branch {
     CallNear { disp: u16 },
     CallTo { to: Place },
@@ -252,7 +252,7 @@ pub enum Branch {
     BrFarAt { at: Address },
 }
 
-#[derive(Drop)]
+#[derive(Clone, Copy)]
 pub enum Conditional {
     // by the low four bits of 70 to 7F
     If { condition: u8, disp: u16 },
@@ -262,7 +262,7 @@ pub enum Conditional {
     Bcwz { disp: u16 },
 }
 
-#[derive(Drop)]
+#[derive(Clone, Copy)]
 pub enum Interrupt {
     Brk3,
     Brk { vector: u8 },
@@ -271,14 +271,14 @@ pub enum Interrupt {
 }
 
 // What may write MD, the mode's bit of PSW.
-#[derive(Drop)]
+#[derive(Clone, Copy)]
 pub enum Mode {
     PopPsw,
     Reti,
     Brkem { vector: u8 },
 }
 
-#[derive(Drop)]
+#[derive(Clone, Copy)]
 pub enum Primitive {
     Movbk,
     Cmpbk,
@@ -290,7 +290,7 @@ pub enum Primitive {
 }
 
 // The repeat prefix that counts, by what a comparison must leave to go on.
-#[derive(Drop)]
+#[derive(Clone, Copy)]
 pub enum Repeat {
     Once,
     WhileZ,
@@ -300,32 +300,32 @@ pub enum Repeat {
 }
 
 // A segment that a prefix puts in place of the usual one.
-#[derive(Drop)]
+#[derive(Clone, Copy)]
 pub enum Override {
     Usual,
     Named(u8),
 }
 
 // What the prefixes of an instruction say.
-#[derive(Drop)]
+#[derive(Clone, Copy)]
 pub struct Prefixes {
     pub seg: Override,
     pub repeat: Repeat,
 }
 
-#[derive(Drop)]
+#[derive(Clone, Copy)]
 pub enum Port {
     InDw,
     Numbered(u8),
 }
 
-#[derive(Drop)]
+#[derive(Clone, Copy)]
 pub enum Io {
     In { word: bool, port: Port },
     Out { word: bool, port: Port },
 }
 
-#[derive(Drop)]
+#[derive(Clone, Copy)]
 pub enum Control {
     Nop,
     Halt,
@@ -339,7 +339,7 @@ pub enum Control {
 }
 
 // What computes a result and takes no trap.
-#[derive(Drop)]
+#[derive(Clone, Copy)]
 pub enum Compute {
     Calculates(Arithmetic),
     Converts(Convert),
@@ -360,7 +360,7 @@ pub enum Compute {
 }
 
 // What moves data or PC and takes no trap.
-#[derive(Drop)]
+#[derive(Clone, Copy)]
 pub enum Move {
     Transfers(Transfer),
     Stacks(Stack),
@@ -368,7 +368,7 @@ pub enum Move {
     Tests(Conditional),
 }
 
-#[derive(Drop)]
+#[derive(Clone, Copy)]
 pub enum Instr {
     Computes(Compute),
     Moves(Move),
@@ -390,21 +390,21 @@ pub enum Instr {
 // ---- the port log
 
 // The rule that gaps were written under: document 01's, or that of document 02 c.
-#[derive(Drop)]
+#[derive(Clone, Copy)]
 pub enum GapRule {
     Old,
     New,
 }
 
 // A number at the start of a part of the log, and how many bytes it has.
-#[derive(Drop)]
+#[derive(Clone, Copy)]
 pub enum Number {
     Got { value: u64, len: usize },
     Bad,
 }
 
 // A record at the start of a part of the log.
-#[derive(Drop)]
+#[derive(Clone, Copy)]
 pub enum Found {
     Record {
         gap: u64,
@@ -417,7 +417,7 @@ pub enum Found {
 }
 
 // What the log reader answers at a place.
-#[derive(Drop)]
+#[derive(Clone, Copy)]
 pub enum Entry {
     Record {
         gap: u64,
@@ -435,41 +435,41 @@ pub enum Entry {
 // ---- what calculations come to
 
 // A product of 32 bits, of which byte operands use 16, and whether it exceeds its lower half.
-#[derive(Drop)]
+#[derive(Clone, Copy)]
 pub struct Product {
     pub bits: u32,
     pub exceeds: bool,
 }
 
-#[derive(Drop)]
+#[derive(Clone, Copy)]
 pub enum Divided {
     Quotient { quotient: u16, remainder: u16 },
     Trap,
 }
 
 // An operand that is shifted, with CY beside it.
-#[derive(Drop)]
+#[derive(Clone, Copy)]
 pub struct Turn {
     pub value: u16,
     pub cy: bool,
 }
 
 // Which way decimal digits are calculated: ADD4S, ADJ4A and ADJBA add, SUB4S, CMP4S, ADJ4S and ADJBS subtract.
-#[derive(Drop)]
+#[derive(Clone, Copy)]
 pub enum Way {
     Addition,
     Subtraction,
 }
 
 // What becomes of the result of a decimal string: CMP4S stores nothing.
-#[derive(Drop)]
+#[derive(Clone, Copy)]
 pub enum Storing {
     Stored,
     NotStored,
 }
 
 // A byte with AC and CY.
-#[derive(Drop)]
+#[derive(Clone, Copy)]
 pub struct Digits {
     pub value: u16,
     pub ac: bool,
@@ -477,14 +477,14 @@ pub struct Digits {
 }
 
 // What goes from byte to byte of a decimal string: the carry, and whether all results so far are zero.
-#[derive(Drop)]
+#[derive(Clone, Copy)]
 pub struct Chain {
     pub cy: bool,
     pub zero: bool,
 }
 
 // A result, and the PSW that it leaves.
-#[derive(Drop)]
+#[derive(Clone, Copy)]
 pub struct Flagged {
     pub value: u16,
     pub psw: u16,

@@ -2,7 +2,7 @@
 use sheet::{Bus, Marks, Progress, State};
 
 // What a call answers: the number, the state and the bus.
-#[derive(Drop)]
+#[derive(Clone, Copy)]
 pub struct Answer {
     pub number: u8,
     pub state: State,
@@ -10,7 +10,7 @@ pub struct Answer {
 }
 
 // What comes of a step: done, or the number of its refusal, after which nothing has changed; the marks, the places, the bus.
-#[derive(Drop)]
+#[derive(Clone, Copy)]
 pub struct Advanced {
     pub done: bool,
     pub number: u8,
@@ -20,7 +20,7 @@ pub struct Advanced {
 }
 
 // What a run answers: the number of the refusal that ended it or 0, the state, the steps done and their bus.
-#[derive(Drop)]
+#[derive(Clone, Copy)]
 pub struct Ran {
     pub number: u8,
     pub state: State,

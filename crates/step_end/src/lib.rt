@@ -18,7 +18,7 @@ pub fn count_on(count: u32) -> u32
     }
 }
 
-#[derive(Drop)]
+#[derive(Clone, Copy)]
 pub struct Finished {
     pub marks: Marks,
     pub bus: Bus,
