@@ -33,7 +33,9 @@ pub at_once : (r s x : ℕ) → right_by (r + s) r x ≡ around r s x
 unfolding right_by
 at_once zero s x = sym (around_none s x)
 at_once (suc r) s x =
-    rw (suc-add r s, ← add-suc r s, at_once r (suc s) x, add-suc r s) (around_more r s x)
+    let bits : suc r + s ≡ r + suc s = suc-add r s ∙ sym (add-suc r s) in
+    ap (λ b. right_by b (suc r) x) bits
+    ∙ (ap (one_right (r + suc s)) (at_once r (suc s) x) ∙ (ap (λ b. one_right b (around r (suc s) x)) (add-suc r s) ∙ around_more r s x))
 
 -- some places, then others
 pub right_add : (bits m n x : ℕ) → right_by bits (m + n) x ≡ right_by bits m (right_by bits n x)

@@ -1,6 +1,6 @@
 -- What is said of a function that puts text into a line.
 use Rattle.std.specs.Prelude.{ℕ, ◌+◌, ◌≤◌, ◌≡◌, List, ◌++◌, length, take}
-use Rattle.std.specs.Borrow.{Bor}
+use Rattle.std.specs.Borrow.{MutBor}
 use denote.Triple.Both.{Both}
 
 -- the first r bytes of a line are a text
@@ -14,5 +14,5 @@ pub record Adds (x line : List ℕ) (at r : ℕ) (line' : List ℕ) : Type 0 whe
   pub adds : (text : List ℕ) → length (text ++ x) ≤ 80 → Holds line at text → Holds line' r (text ++ x)
 
 -- the same of a line that is lent
-abbrev pub AddsTo : List ℕ → Both (Bor (List ℕ)) (Bor (List ℕ)) → ℕ → ℕ → Type 0
+abbrev pub AddsTo : List ℕ → Both (MutBor (List ℕ)) (MutBor (List ℕ)) → ℕ → ℕ → Type 0
 AddsTo x line at r = Adds x line.entry.now at r line.exit.now

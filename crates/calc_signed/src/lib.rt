@@ -1,4 +1,5 @@
 // Signed numbers: both widths are read as i64.
+#![tactic(auto)]
 ghost use Rattle.std.specs.Prelude.{◌≡◌};
 ghost use Rattle.sheet.specs.Width.{signed_of, bits32};
 

@@ -8,7 +8,7 @@ use Rattle.sheet.specs.Act.{Act}
 use Rattle.sheet.specs.Handler.{nothing}
 use Rattle.sheet.specs.Contract.{Ends, Stops}
 use Rattle.mach_tally.specs.Bounds.{Within}
-use Rattle.mach_tally.specs.Lent.{Lent}
+use Rattle.mach_tally.specs.Lent.{Lent, LentToRead}
 use Rattle.do_8080.specs.declared.Carded.{Carded}
 
 -- it ends and leaves the marks m', within so many bus cycles; or it refuses, and nothing that it was lent has changed
@@ -18,7 +18,7 @@ pub record OnAll (p : Act Unit) (f ram rom tape log : List ℕ) (m : Marks) (q :
   pub stop : (number ≡ 0 → ⊥) → Stops Unit p (world (state_of f m q) ram rom tape log) number
   pub same : (number ≡ 0 → ⊥) → (f' ≡ f) × (ram' ≡ ram) × (log' ≡ log) × (n ≡ nothing)
 
-abbrev pub CardsOn : Act Unit → Lent → Lent → Lent → Lent → Lent → Marks → Progress → Carded → ℕ → Type 0
+abbrev pub CardsOn : Act Unit → Lent → Lent → LentToRead → LentToRead → Lent → Marks → Progress → Carded → ℕ → Type 0
 CardsOn p file ram rom tape log m q r top =
     OnAll p file.entry.now ram.entry.now rom.entry.now tape.entry.now log.entry.now m q
     r.number file.exit.now ram.exit.now log.exit.now r.marks r.progress r.bus top

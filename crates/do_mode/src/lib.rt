@@ -28,7 +28,7 @@ fn take_back(file: &mut [u16; 14], m: Marks, x: u16)
 }
 
 fn pop_psw(file: &mut [u16; 14], ram: &[u8], rom: &[u8], m: Marks) -> Moded
-    ensures { Leaves tree.pop_psw file ram rom m ram.now result.marks result.bus 2 }
+    ensures { Leaves tree.pop_psw file ram.now rom m ram.now result.marks result.bus 2 }
 {
     let x = mach_stack::pop(file, ram, rom);
     take_back(file, m, x.value);
@@ -52,7 +52,7 @@ fn pop_return(file: &mut [u16; 14], ram: &[u8], rom: &[u8]) -> Loaded
 }
 
 fn reti(file: &mut [u16; 14], ram: &[u8], rom: &[u8], m: Marks) -> Moded
-    ensures { Leaves tree.reti file ram rom m ram.now result.marks result.bus 6 }
+    ensures { Leaves tree.reti file ram.now rom m ram.now result.marks result.bus 6 }
 {
     let x = pop_return(file, ram, rom);
     take_back(file, m, x.value);
@@ -61,7 +61,7 @@ fn reti(file: &mut [u16; 14], ram: &[u8], rom: &[u8], m: Marks) -> Moded
 }
 
 fn retem(file: &mut [u16; 14], ram: &[u8], rom: &[u8], m: Marks) -> Moded
-    ensures { Leaves tree.retem file ram rom m ram.now result.marks result.bus 6 }
+    ensures { Leaves tree.retem file ram.now rom m ram.now result.marks result.bus 6 }
 {
     let x = pop_return(file, ram, rom);
     file[PSW] = calc_psw::restore(x.value, file[PSW]);
@@ -74,7 +74,7 @@ fn retem(file: &mut [u16; 14], ram: &[u8], rom: &[u8], m: Marks) -> Moded
 }
 
 fn brkem(file: &mut [u16; 14], ram: &mut [u8], rom: &[u8], m: Marks, v: u8) -> Moded
-    ensures { Leaves (tree.brkem v) file ram rom m ram.new result.marks result.bus 8 }
+    ensures { Leaves (tree.brkem v) file ram.old rom m ram.new result.marks result.bus 8 }
 {
     let x = calc_psw::in_mode(false, file[PSW]);
     let b = mach_stack::vectored(file, ram, rom, v, x);
@@ -85,7 +85,7 @@ fn brkem(file: &mut [u16; 14], ram: &mut [u8], rom: &[u8], m: Marks, v: u8) -> M
 }
 
 fn calln(file: &mut [u16; 14], ram: &mut [u8], rom: &[u8], m: Marks, v: u8) -> Moded
-    ensures { Leaves (tree.calln v) file ram rom m ram.new result.marks result.bus 8 }
+    ensures { Leaves (tree.calln v) file ram.old rom m ram.new result.marks result.bus 8 }
 {
     let x = calc_psw::in_mode(true, file[PSW]);
     let b = mach_stack::vectored(file, ram, rom, v, x);
@@ -93,7 +93,7 @@ fn calln(file: &mut [u16; 14], ram: &mut [u8], rom: &[u8], m: Marks, v: u8) -> M
 }
 
 pub fn mode(file: &mut [u16; 14], ram: &mut [u8], rom: &[u8], m: Marks, i: Mode) -> Moded
-    ensures { Leaves (tree.modes i) file ram rom m ram.new result.marks result.bus 8 }
+    ensures { Leaves (tree.modes i) file ram.old rom m ram.new result.marks result.bus 8 }
 {
     match i {
         Mode::PopPsw => pop_psw(file, ram, rom, m),
@@ -103,7 +103,7 @@ pub fn mode(file: &mut [u16; 14], ram: &mut [u8], rom: &[u8], m: Marks, i: Mode)
 }
 
 pub fn card_mode(file: &mut [u16; 14], ram: &mut [u8], rom: &[u8], m: Marks, i: CardMode) -> Moded
-    ensures { Leaves (tree.card_modes i) file ram rom m ram.new result.marks result.bus 8 }
+    ensures { Leaves (tree.card_modes i) file ram.old rom m ram.new result.marks result.bus 8 }
 {
     match i {
         CardMode::Calln { vector } => calln(file, ram, rom, m, vector),

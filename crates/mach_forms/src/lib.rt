@@ -1,4 +1,5 @@
 // The eight address forms as a table: base register, index register, default segment.
+#![tactic(auto)]
 ghost use Rattle.std.specs.Prelude.{◌≡◌};
 ghost use Rattle.sheet.specs.Operand.{form_at};
 

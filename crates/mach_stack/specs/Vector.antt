@@ -7,7 +7,7 @@ use Rattle.sheet.specs.Registers.{PSW}
 use Rattle.sheet.specs.Act.{Act, peek}
 use Rattle.sheet.specs.Handler.{nothing, ◌⊕◌}
 use Rattle.sheet.specs.Contract.{OnMemory, OnMarks}
-use Rattle.mach_tally.specs.Lent.{Lent}
+use Rattle.mach_tally.specs.Lent.{Lent, LentToRead}
 
 pub record Fetches (ram rom : List ℕ) (v pc ps : ℕ) (n : Bus) : Type 0 where
   pub most : n.cycles ≤ 2
@@ -28,5 +28,5 @@ pub record Surrounds (tree : Act Unit → Act Unit) (x : ℕ) (f ram rom f' ram'
   pub fair : n.dropped ≤ 2 * n.cycles
   pub at : (change : Act Unit) (m m' : Marks) → Changes change (get_or f PSW 0) x m m' → OnMarks Unit (tree change) f ram rom m tt f' ram' m' n top
 
-abbrev pub Around : (Act Unit → Act Unit) → ℕ → Lent → Lent → Lent → Bus → ℕ → Type 0
+abbrev pub Around : (Act Unit → Act Unit) → ℕ → Lent → Lent → LentToRead → Bus → ℕ → Type 0
 Around tree x file ram rom n top = Surrounds tree x file.entry.now ram.entry.now rom.entry.now file.exit.now ram.exit.now n top

@@ -4,7 +4,7 @@ use Rattle.sheet.specs.declared.Operation.{Operation}
 use Rattle.sheet.specs.declared.Spot.{Spot}
 use Rattle.sheet.specs.Act.{Act, affect, ◌>>=◌, ◌>>◌}
 use Rattle.sheet.specs.Arithmetic.{operate, conclude}
-use Rattle.std.specs.Borrow.{Bor}
+use Rattle.std.specs.Borrow.{MutBor}
 use denote.Triple.Both.{Both}
 use Rattle.sheet.specs.Contract.{OnFile}
 
@@ -16,5 +16,5 @@ settle op w s a b = do
   conclude op w s r.value
 
 -- code that is lent the registers alone
-abbrev pub Sets : Act Unit → Both (Bor (List ℕ)) (Bor (List ℕ)) → Type 0
+abbrev pub Sets : Act Unit → Both (MutBor (List ℕ)) (MutBor (List ℕ)) → Type 0
 Sets p file = OnFile Unit p file.entry.now tt file.exit.now

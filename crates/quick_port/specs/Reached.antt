@@ -10,7 +10,7 @@ use Rattle.mach_tally.specs.Sums.{Costs}
 use Rattle.mach_ports.specs.Accesses.{Records, Gives, Takes, OnPorts}
 use Rattle.quick_tally.specs.Packed.{bus_at}
 use Rattle.quick_stand.specs.Stand.{Holds}
-use Rattle.mach_tally.specs.Lent.{Lent}
+use Rattle.mach_tally.specs.Lent.{Lent, LentToRead}
 
 -- a turn as one number: that of a refusal, or 256 and what its accesses come to
 unfoldable pub number_of : ℕ → ℕ
@@ -63,12 +63,12 @@ pub record Reaches (t : Act Unit) (f ram rom tape log p : List ℕ) (count x : �
 abbrev pub LodgesOn : List ℕ → (next count : ℕ) → Lent → Lent → ℕ → Type 0
 LodgesOn b next count log stand r = Lodges b next count log.entry.now stand.entry.now r log.exit.now stand.exit.now
 
-abbrev pub DrawsOn : Bool → (port count : ℕ) → Lent → Lent → Lent → ℕ → Type 0
+abbrev pub DrawsOn : Bool → (port count : ℕ) → LentToRead → Lent → Lent → ℕ → Type 0
 DrawsOn w port count tape log stand x =
     Draws w port count tape.entry.now log.entry.now stand.entry.now x log.exit.now stand.exit.now
 
--- the registers and RAM afterwards are named: not all of these write them
-abbrev pub ReachesOn : Act Unit → Lent → Lent → Lent → Lent → Lent → Lent → (count x : ℕ) → (f' ram' : List ℕ) → Type 0
-ReachesOn t file ram rom tape log stand count x f' ram' =
-    Reaches t file.entry.now ram.entry.now rom.entry.now tape.entry.now log.entry.now stand.entry.now
+-- the registers and RAM are named, before and after: not all of these write them
+abbrev pub ReachesOn : Act Unit → (f ram : List ℕ) → LentToRead → LentToRead → Lent → Lent → (count x : ℕ) → (f' ram' : List ℕ) → Type 0
+ReachesOn t f ram rom tape log stand count x f' ram' =
+    Reaches t f ram rom.entry.now tape.entry.now log.entry.now stand.entry.now
     count x f' ram' log.exit.now stand.exit.now

@@ -9,7 +9,7 @@ use Rattle.code_answer.specs.Answer.{Decodes}
 use Rattle.quick_place.specs.Packed.{size_of}
 use Rattle.quick_pack.specs.Readings.{instr_of}
 use Rattle.quick_stand.specs.Stand.{marks_at}
-use Rattle.mach_tally.specs.Lent.{Lent}
+use Rattle.mach_tally.specs.Lent.{LentToRead}
 
 -- unless it is 0, the machine is awake, not traced, in native mode and without the permission, and r is the instruction at PS:PC
 pub record Ready (f p ram rom : List ℕ) (r : ℕ) : Type 0 where
@@ -19,5 +19,5 @@ pub record Ready (f p ram rom : List ℕ) (r : ℕ) : Type 0 where
   pub untraced : (r ≡ 0 → ⊥) → flag_of (get_or f PSW 0) BRK ≡ false
   pub reads : (r ≡ 0 → ⊥) → Decodes instruction (code_byte ram rom (get_or f PS 0) (get_or f PC 0)) 0 (Known (instr_of r) (size_of r))
 
-abbrev pub ReadyOn : Lent → Lent → Lent → Lent → ℕ → Type 0
+abbrev pub ReadyOn : LentToRead → LentToRead → LentToRead → LentToRead → ℕ → Type 0
 ReadyOn file stand ram rom r = Ready file.entry.now stand.entry.now ram.entry.now rom.entry.now r

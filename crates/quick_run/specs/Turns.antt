@@ -10,7 +10,7 @@ pub record Turns (f p ram rom tape log : List ℕ) (x : ℕ) (f' p' ram' log' : 
   pub lent : Lent p'
   pub does : Advances (state_of f (marks_at p) (progress_at p)) ram rom tape log (leb 256 x) (number_of x) (state_of f' (marks_at p') (progress_at p')) ram' log' (cost_of x)
 
-abbrev pub TurnsOn : tally.Lent → tally.Lent → tally.Lent → tally.Lent → tally.Lent → tally.Lent → ℕ → Type 0
+abbrev pub TurnsOn : tally.Lent → tally.Lent → tally.Lent → tally.LentToRead → tally.LentToRead → tally.Lent → ℕ → Type 0
 TurnsOn file stand ram rom tape log x =
     Turns file.entry.now stand.entry.now ram.entry.now rom.entry.now tape.entry.now log.entry.now
     x file.exit.now stand.exit.now ram.exit.now log.exit.now

@@ -1,0 +1,6 @@
+use Rattle.base_at_once.proofs.Scaled.{up_is}
+use borrow.Author.Rules.{rules}
+use Rattle.base_at_once.proofs.up.Goals as goal
+
+pub returns : goal.returns
+returns c = rw c.at_most_16.ensures (up_is _ _)

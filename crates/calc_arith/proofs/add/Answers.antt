@@ -1,0 +1,6 @@
+use mathlib.Core.Path.{◌∙◌}
+use borrow.Author.Rules.{rules}
+use Rattle.calc_arith.proofs.add.Goals as goal
+
+pub returns : goal.returns
+returns c = c.result.ensures ∙ rw c.plus-t.ensures

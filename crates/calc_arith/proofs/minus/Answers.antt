@@ -1,0 +1,7 @@
+use borrow.Author.Rules.{rules}
+use Rattle.sheet.specs.Arithmetic.{difference}
+use Rattle.calc_arith.proofs.minus.Goals as goal
+
+pub returns : goal.returns
+unfolding difference
+returns c = cc

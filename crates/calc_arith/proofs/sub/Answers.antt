@@ -1,0 +1,6 @@
+use mathlib.Core.Path.{◌∙◌}
+use borrow.Author.Rules.{rules}
+use Rattle.calc_arith.proofs.sub.Goals as goal
+
+pub returns : goal.returns
+returns c = c.result.ensures ∙ rw c.minus-t.ensures

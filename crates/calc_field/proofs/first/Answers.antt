@@ -1,0 +1,6 @@
+use borrow.Author.Rules.{rules}
+use Rattle.calc_field.proofs.first.Goals as goal
+
+-- `calc_field::first` meets its contract.
+pub returns : goal.returns
+returns c = cc

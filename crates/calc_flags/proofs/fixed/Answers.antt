@@ -1,0 +1,5 @@
+use borrow.Author.Rules.{rules}
+use Rattle.calc_flags.proofs.fixed.Goals as goal
+
+pub returns : goal.returns
+returns c = rw (c.pack.ensures, c.unpack.ensures, c.native.ensures)

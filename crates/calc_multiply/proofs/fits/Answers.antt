@@ -1,0 +1,17 @@
+use mir.Syntax.{w64}
+use mir.ValLaws.{to_z-of_z}
+use native.Mathlib.Omega.{arith}
+use borrow.Author.Rules.{rules}
+use Rattle.sheet.specs.Multiply.{fits_signed}
+use Rattle.calc_signed.proofs.SignedLaws.{reads_pos, minus_fits, minus_reads}
+use Rattle.calc_multiply.proofs.fits.Goals as goal
+
+-- `calc_multiply::fits` meets its contract.
+pub overflow_sub-result : goal.overflow_sub-result
+overflow_sub-result c = minus_fits c.half-h.result (omega arith)
+
+pub returns : goal.returns
+unfolding fits_signed
+returns c =
+    let h = c.half-h.result in
+    rw (minus_reads h (omega arith), reads_pos h (omega arith), to_z-of_z w64 c.args.z c.ranges.z, c.half-h.ensures.0)

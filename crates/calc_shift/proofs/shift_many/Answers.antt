@@ -1,0 +1,10 @@
+use mathlib.Core.Path.{◌∙◌}
+use Rattle.sheet.specs.Shift.{shift_many}
+use Rattle.calc_shift.proofs.Kept.{kept_v}
+use borrow.Author.Rules.{rules}
+use Rattle.calc_shift.proofs.shift_many.Goals as goal
+
+pub returns : goal.returns
+unfolding shift_many
+returns c =
+    c.after.ensures ∙ rw (c.v.ensures, c.many_places-t.ensures) (kept_v _ _ _ _)

@@ -1,0 +1,7 @@
+use Rattle.case_bytes.specs.Numbers.{word_at}
+use borrow.Author.Rules.{rules}
+use Rattle.case_bytes.proofs.word_at.Goals as goal
+
+pub returns : goal.returns
+unfolding word_at
+returns c = cc

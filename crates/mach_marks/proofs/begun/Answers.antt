@@ -1,0 +1,5 @@
+use borrow.Author.Rules.{rules}
+use Rattle.mach_marks.proofs.begun.Goals as goal
+
+pub returns : goal.returns
+returns c = cc

@@ -1,9 +1,0 @@
-use borrow.Author.Rules.{rules}
-use Rattle.mach_marks.proofs.begun.Statement.{statement}
-use Rattle.mach_marks.proofs.begun.Tie as tie
-
-returns : tie.Need-returns
-returns c = cc
-
-pub begun_spec : {M : Type 1} → statement M
-begun_spec = tie.close (tie.spec (λ c κs. search rules) returns)

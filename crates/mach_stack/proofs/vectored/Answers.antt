@@ -1,0 +1,7 @@
+use Rattle.mach_tally.proofs.Laws.{sums}
+use Rattle.mach_stack.proofs.Laws.{vectored_is}
+use borrow.Author.Rules.{rules}
+use Rattle.mach_stack.proofs.vectored.Goals as goal
+
+pub returns : goal.returns
+returns c = vectored_is _ _ _ _ _ _ _ _ _ _ _ _ c.vector-at.ensures c.save-b.ensures c.both.ensures

@@ -1,0 +1,6 @@
+use Rattle.mach_tally.proofs.Laws.{costs}
+use borrow.Author.Rules.{rules}
+use Rattle.mach_tally.proofs.of_write.Goals as goal
+
+pub returns : goal.returns
+returns c = search (costs, rules)
