@@ -1,4 +1,5 @@
 // The first bytes 40 to 7F.
+#![tactic(auto)]
 ghost use Rattle.std.specs.Prelude.{◌≤◌, ◌<◌};
 ghost use Rattle.sheet.specs.declared.Instr.TheVariants.{Multiplies, Interrupts};
 ghost use Rattle.sheet.specs.declared.Multiply.TheVariants.{MulByte, MulWord};

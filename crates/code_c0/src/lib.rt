@@ -1,4 +1,5 @@
 // The first bytes C0 to CF.
+#![tactic(auto)]
 ghost use Rattle.std.specs.Prelude.{◌≤◌, ◌<◌};
 ghost use Rattle.sheet.specs.Groups.{Transfers};
 ghost use Rattle.sheet.specs.declared.Transfer.TheVariants.{LoadPointer};

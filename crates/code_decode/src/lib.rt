@@ -1,4 +1,5 @@
 // The decoder: prefixes, and the instruction that follows them.
+#![tactic(auto)]
 mod first;
 
 ghost use Rattle.code_answer.specs.Lent.{lent_code};

@@ -1,1 +1,2 @@
 // Intel HEX: specs/ says what a text means and how it is written, proofs/ what follows. There is no code here.
+#![tactic(auto)]

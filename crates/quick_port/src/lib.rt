@@ -148,7 +148,7 @@ pub fn input(
 ) -> u64
     requires { Lent stand.old }
     ensures { ReachesOn (tree.ports (io.In (word_of r) (port_at (rm_of r) (disp_of r))))
-        file ram rom tape log stand count result file.new ram.now }
+        file.old ram.now rom tape log stand count result file.new ram.now }
 {
     let word = quick_do::word_of(r);
     let port = port_of(file, r);
@@ -173,7 +173,7 @@ pub fn output(
 ) -> u64
     requires { Lent stand.old }
     ensures { ReachesOn (tree.ports (io.Out (word_of r) (port_at (rm_of r) (disp_of r))))
-        file ram rom tape log stand count result file.now ram.now }
+        file.now ram.now rom tape log stand count result file.now ram.now }
 {
     let word = quick_do::word_of(r);
     let port = port_of(file, r);

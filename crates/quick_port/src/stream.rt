@@ -24,7 +24,7 @@ fn inm(
 ) -> u64
     requires { Lent stand.old }
     ensures { ReachesOn (tree.primitive primitives.Inm (word_of r) (seg_of r))
-        file ram rom tape log stand count result file.new ram.new }
+        file.old ram.old rom tape log stand count result file.new ram.new }
 {
     let word = quick_do::word_of(r);
     let port = file[DW];
@@ -50,7 +50,7 @@ fn outm(
 ) -> u64
     requires { Lent stand.old }
     ensures { ReachesOn (tree.primitive primitives.Outm (word_of r) (seg_of r))
-        file ram rom tape log stand count result file.new ram.now }
+        file.old ram.now rom tape log stand count result file.new ram.now }
 {
     let word = quick_do::word_of(r);
     let v = mach_element::source_element(word, file, ram, rom, (r / 16777216 % 4) as u8);
@@ -77,7 +77,7 @@ fn inm_element(
 ) -> u64
     requires { Lent stand.old }
     ensures { ReachesOn (tree.element primitives.Inm (word_of r) (seg_of r) repeats.WhileZ start)
-        file ram rom tape log stand count result file.new ram.new }
+        file.old ram.old rom tape log stand count result file.new ram.new }
 {
     let x = inm(file, ram, rom, tape, log, stand, count, r);
     if 256 <= x {
@@ -99,7 +99,7 @@ fn outm_element(
 ) -> u64
     requires { Lent stand.old }
     ensures { ReachesOn (tree.element primitives.Outm (word_of r) (seg_of r) repeats.WhileZ start)
-        file ram rom tape log stand count result file.new ram.now }
+        file.old ram.now rom tape log stand count result file.new ram.now }
 {
     let x = outm(file, ram, rom, tape, log, stand, count, r);
     if 256 <= x {
@@ -122,7 +122,7 @@ fn stream(
 ) -> u64
     requires { Lent stand.old }
     ensures { ReachesOn (tree.block (stream_at (op_of r)) (word_of r) (seg_of r) repeats.WhileZ start)
-        file ram rom tape log stand count result file.new ram.new }
+        file.old ram.old rom tape log stand count result file.new ram.new }
 {
     if file[CW] == 0 {
         stand[2] = count as usize;
@@ -148,7 +148,7 @@ pub fn access(
     start: u16,
 ) -> u64
     requires { Lent stand.old × (at_port r ≡ true) }
-    ensures { ReachesOn (port_tree r start) file ram rom tape log stand count result file.new ram.new }
+    ensures { ReachesOn (port_tree r start) file.old ram.old rom tape log stand count result file.new ram.new }
 {
     match r % 256 {
         48 => super::input(file, ram, rom, tape, log, stand, count, r),

@@ -1,4 +1,5 @@
 // What readings do that shift or rotate.
+#![tactic(auto)]
 ghost use Rattle.std.specs.Prelude.{◌≡◌};
 ghost use Rattle.sheet.specs.declared.Place.TheVariants.{Register, Memory};
 ghost use Rattle.sheet.specs.declared.Places.TheVariants.{One};

@@ -1,4 +1,5 @@
 // Eight code bytes as one number.
+#![tactic(auto)]
 ghost use Rattle.std.specs.Prelude.{◌≡◌, ◌+◌, ◌≤◌, length};
 ghost use Rattle.sheet.specs.Step.{code_byte};
 ghost use Rattle.quick_window.specs.Spelled.{Spells, listed};

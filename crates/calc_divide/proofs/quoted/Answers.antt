@@ -20,12 +20,12 @@ d_reads c = to_z-of_z w64 c.args.d c.ranges.d
 
 q_reads : (c : After-quotient-q) → to_z w64 (of_z w64 c.quotient-q.result) ≡ quot_z c.args.n c.args.d
 q_reads c =
-    passes (c.quotient-q.ensures ∙ rw (n_reads s, d_reads s)) (quot_fits c.args.n c.args.d c.ranges.n c.ranges.d c.requires.0)
+    passes (c.quotient-q.ensures ∙ rw (n_reads c.before, d_reads c.before)) (quot_fits c.args.n c.args.d c.ranges.n c.ranges.d c.requires.0)
 
 r_reads : (c : After-remainder)
     → (let s = c.args in to_z w64 (of_z w64 c.remainder.result) ≡ rem_z s.n s.d)
 r_reads c =
-    passes (c.remainder.ensures ∙ rw (n_reads s, d_reads s)) (rem_fits c.args.n c.args.d c.ranges.n c.ranges.d c.requires.0)
+    passes (c.remainder.ensures ∙ rw (n_reads c.before.before.before.before.before, d_reads c.before.before.before.before.before)) (rem_fits c.args.n c.args.d c.ranges.n c.ranges.d c.requires.0)
 
 test : (c : After-stands) → (let s = c.args in c.stands.result ≡ stands s.word (quot_z s.n s.d))
 test c = c.stands.ensures ∙ ap (λ (z : ℤ). stands c.args.word z) (q_reads c.before)
@@ -34,7 +34,7 @@ pub returns-then-stands : goal.returns-then-stands
 unfolding quoted
 returns-then-stands c =
     let t = sym (test c.before.before.before.before) ∙ c.if-stands.true in
-    rw (t, c.bits-then-stands.ensures, c.bits.ensures, r_reads r, q_reads c.before.before.before.before.before)
+    rw (t, c.bits-then-stands.ensures, c.bits.ensures, r_reads c.before, q_reads c.before.before.before.before.before)
 
 pub returns-else-stands : goal.returns-else-stands
 unfolding quoted

@@ -43,4 +43,4 @@ pub returns : goal.returns
 unfolding signed_quotient
 returns c =
     let w = c.wrap-k.ensures in
-    rw (c.quoted.ensures, n_reads n, d_reads d, c.span.ensures.0, c.half.ensures.0, w, ne_eqb _ 0 (λ e. c.if-k-eq0.false (w ∙ e)))
+    rw (c.quoted.ensures, n_reads c.before, d_reads c.before.before.before, c.span.ensures.0, c.half.ensures.0, w, ne_eqb _ 0 (λ e. c.if-k-eq0.false (w ∙ e)))

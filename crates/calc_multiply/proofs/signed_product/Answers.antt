@@ -41,4 +41,4 @@ product_reads c =
 pub returns : goal.returns
 unfolding signed_product
 returns c =
-    rw (c.low_bits.ensures, c.fits2.ensures, product_reads t, c.half-h.ensures.0)
+    rw (c.low_bits.ensures, c.fits.ensures, product_reads c.before.before, c.half-h.ensures.0)

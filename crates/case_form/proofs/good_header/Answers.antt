@@ -1,0 +1,7 @@
+use Rattle.case_form.specs.Form.{good_header}
+use borrow.Author.Rules.{rules}
+use Rattle.case_form.proofs.good_header.Goals as goal
+
+pub returns : goal.returns
+unfolding good_header
+returns c = cc

@@ -1,0 +1,21 @@
+use Rattle.code_8080_00.proofs.Laws.{at00}
+use borrow.Author.Rules.{rules}
+use Rattle.code_8080_00.proofs.cards00.Goals as goal
+
+pub returns-in-0 : goal.returns-in-0
+returns-in-0 c = search (at00, rules)
+
+pub returns-in-1 : goal.returns-in-1
+returns-in-1 c = search (at00, rules)
+
+pub returns-in-2 : goal.returns-in-2
+returns-in-2 c = search (at00, rules)
+
+pub returns-in-3 : goal.returns-in-3
+returns-in-3 c = search (at00, rules)
+
+pub returns-in-4 : goal.returns-in-4
+returns-in-4 c = search (at00, rules)
+
+pub returns-in-5 : goal.returns-in-5
+returns-in-5 c = search (at00, rules)

@@ -1,0 +1,36 @@
+use mathlib.Core.Path.{refl}
+use borrow.Author.Rules.{rules}
+use Rattle.sheet.specs.CardCodes.{card_operation_at}
+use Rattle.code_8080_answer.proofs.CardLaws.{operation_rest}
+use Rattle.code_8080_answer.proofs.operation_at.Goals as goal
+
+pub returns-in-0 : goal.returns-in-0
+unfolding card_operation_at
+returns-in-0 c = rw c.in-0.is refl
+
+pub returns-in-1 : goal.returns-in-1
+unfolding card_operation_at
+returns-in-1 c = rw c.in-1.is refl
+
+pub returns-in-2 : goal.returns-in-2
+unfolding card_operation_at
+returns-in-2 c = rw c.in-2.is refl
+
+pub returns-in-3 : goal.returns-in-3
+unfolding card_operation_at
+returns-in-3 c = rw c.in-3.is refl
+
+pub returns-in-4 : goal.returns-in-4
+unfolding card_operation_at
+returns-in-4 c = rw c.in-4.is refl
+
+pub returns-in-5 : goal.returns-in-5
+unfolding card_operation_at
+returns-in-5 c = rw c.in-5.is refl
+
+pub returns-in-6 : goal.returns-in-6
+unfolding card_operation_at
+returns-in-6 c = rw c.in-6.is refl
+
+pub returns-in_default : goal.returns-in_default
+returns-in_default c = search (operation_rest, rules)

@@ -1,0 +1,16 @@
+use native.Mathlib.Omega.{arith}
+use Rattle.code_8080_c0.proofs.Laws.{pop_b, pop_d, pop_h, pop_psw}
+use borrow.Author.Rules.{rules}
+use Rattle.code_8080_c0.proofs.pops.Goals as goal
+
+pub returns-in-0 : goal.returns-in-0
+returns-in-0 c = search (pop_b, rules)
+
+pub returns-in-2 : goal.returns-in-2
+returns-in-2 c = search (pop_d, rules)
+
+pub returns-in-4 : goal.returns-in-4
+returns-in-4 c = search (pop_h, rules)
+
+pub returns-in_default : goal.returns-in_default
+returns-in_default c = pop_psw _ (omega arith) (search rules)

@@ -1,0 +1,6 @@
+use Rattle.code_operand.proofs.Laws.{block_is}
+use borrow.Author.Rules.{rules}
+use Rattle.code_operand.proofs.block.Goals as goal
+
+pub returns : goal.returns
+returns c = block_is _ _ _ _ _ _ _ c.blocks-2.ensures c.seg_or-source.ensures

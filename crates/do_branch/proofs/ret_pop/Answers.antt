@@ -1,0 +1,6 @@
+use Rattle.do_branch.proofs.Laws.{ret_pop_is}
+use borrow.Author.Rules.{rules}
+use Rattle.do_branch.proofs.ret_pop.Goals as goal
+
+pub returns : goal.returns
+returns c = search (ret_pop_is, rules)

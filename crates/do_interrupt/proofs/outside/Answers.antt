@@ -1,0 +1,7 @@
+use Rattle.sheet.specs.Interrupts.{outside}
+use borrow.Author.Rules.{rules}
+use Rattle.do_interrupt.proofs.outside.Goals as goal
+
+pub returns : goal.returns
+unfolding outside
+returns c = cc

@@ -1,0 +1,7 @@
+use Rattle.mach_tally.proofs.Laws.{memory_sums_four}
+use Rattle.do_push_r.proofs.Laws.{pointers_are}
+use borrow.Author.Rules.{rules}
+use Rattle.do_push_r.proofs.pop_pointers.Goals as goal
+
+pub returns : goal.returns
+returns c = search (pointers_are, memory_sums_four, rules)

@@ -1,0 +1,7 @@
+use Rattle.mach_tally.proofs.Laws.{sums}
+use Rattle.do_push_r.proofs.Laws.{pop_r_is}
+use borrow.Author.Rules.{rules}
+use Rattle.do_push_r.proofs.pop_r.Goals as goal
+
+pub returns : goal.returns
+returns c = search (pop_r_is, sums, rules)

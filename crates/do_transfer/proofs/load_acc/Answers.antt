@@ -1,0 +1,6 @@
+use Rattle.do_transfer.proofs.Laws.{load_acc_is}
+use borrow.Author.Rules.{rules}
+use Rattle.do_transfer.proofs.load_acc.Goals as goal
+
+pub returns : goal.returns
+returns c = search (load_acc_is, rules)

@@ -1,0 +1,27 @@
+use borrow.Author.Rules.{rules}
+use Rattle.quick_do.proofs.Laws.{op_at, op_last}
+use Rattle.quick_do.proofs.op_of.Goals as goal
+
+pub returns-in-0 : goal.returns-in-0
+returns-in-0 c = search (op_at, rules)
+
+pub returns-in-1 : goal.returns-in-1
+returns-in-1 c = search (op_at, rules)
+
+pub returns-in-2 : goal.returns-in-2
+returns-in-2 c = search (op_at, rules)
+
+pub returns-in-3 : goal.returns-in-3
+returns-in-3 c = search (op_at, rules)
+
+pub returns-in-4 : goal.returns-in-4
+returns-in-4 c = search (op_at, rules)
+
+pub returns-in-5 : goal.returns-in-5
+returns-in-5 c = search (op_at, rules)
+
+pub returns-in-6 : goal.returns-in-6
+returns-in-6 c = search (op_at, rules)
+
+pub returns-in_default : goal.returns-in_default
+returns-in_default c = search (op_last, rules)

@@ -1,0 +1,20 @@
+use Rattle.quick_pack.proofs.Laws.{product_of}
+use Rattle.quick_pack.specs.Readings.{none}
+use mathlib.Core.Path.{refl}
+use borrow.Author.Rules.{rules}
+use Rattle.quick_pack.proofs.multiply.Goals as goal
+
+pub returns-in-Mulu : goal.returns-in-Mulu
+returns-in-Mulu c = search (product_of, rules)
+
+pub returns-in-Mul : goal.returns-in-Mul
+returns-in-Mul c = search (product_of, rules)
+
+pub returns-in-Divu : goal.returns-in-Divu
+returns-in-Divu c = search (product_of, rules)
+
+pub returns-in-Div : goal.returns-in-Div
+returns-in-Div c = search (product_of, rules)
+
+pub returns-in_default : goal.returns-in_default
+returns-in_default c = none refl

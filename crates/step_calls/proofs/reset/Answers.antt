@@ -1,0 +1,7 @@
+use Rattle.sheet.specs.Step.{reset}
+use borrow.Author.Rules.{rules}
+use Rattle.step_calls.proofs.reset.Goals as goal
+
+pub returns : goal.returns
+unfolding reset
+returns c = cc
