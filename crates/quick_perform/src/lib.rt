@@ -1,4 +1,5 @@
 // A reading done, by its kind.
+#![tactic(auto)]
 mod general;
 mod rarer;
 

@@ -1,4 +1,5 @@
 // The listing of a ROM: all its lines, one after the other.
+#![tactic(auto)]
 pub mod line;
 pub mod rebuild;
 

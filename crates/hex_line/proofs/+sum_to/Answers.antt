@@ -1,0 +1,15 @@
+use native.Mathlib.Omega.{arith}
+use Rattle.hex_line.proofs.Bounds.{sum_bound, byte_bound}
+use Rattle.hex_line.proofs.Laws.{sum_none, sum_step}
+use borrow.Author.Rules.{rules}
+use Prim.Native.Nat.{ℕ, ◌<◌}
+use Rattle.hex_line.proofs.+sum_to.Goals as goal
+
+pub returns-then-k-eq0 : goal.returns-then-k-eq0
+returns-then-k-eq0 t c = rw c.if-k-eq0.true (sum_none _)
+
+pub overflow_add-result : goal.overflow_add-result
+overflow_add-result t c = omega (arith, sum_bound _ _ c.sum_to-before.ensures, byte_bound _ _ c.byte_at.ensures)
+
+pub returns : goal.returns
+returns t c = search (sum_step, rules)

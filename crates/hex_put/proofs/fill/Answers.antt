@@ -1,0 +1,6 @@
+use Rattle.hex_put.proofs.Laws.{head_within, data_room, data_fits, filled}
+use borrow.Author.Rules.{rules}
+use Rattle.hex_put.proofs.fill.Goals as goal
+
+pub returns : goal.returns
+returns c = search (filled, rules)

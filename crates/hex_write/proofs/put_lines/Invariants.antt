@@ -1,0 +1,13 @@
+use Rattle.hex_write.proofs.Lines.{end_same}
+use borrow.Author.Rules.{rules}
+use Prim.Native.Nat.{◌-◌}
+use lib.ListN.{length}
+use native.Mathlib.Omega.{arith}
+use Rattle.hex_write.proofs.Lines.{Putting, part_few, begun, at_within, chunk_room, on, put, end_room, end_fits, end_put}
+use Rattle.hex_write.proofs.put_lines.Given as goal
+
+abbrev pub invariant-loop-i : goal.invariant-loop-i
+invariant-loop-i l = Putting l.base l.image l.initial.out l.out l.at l.g l.i
+
+abbrev pub decreases-loop-i : goal.decreases-loop-i
+decreases-loop-i l = length l.image - l.i

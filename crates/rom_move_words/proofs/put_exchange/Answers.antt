@@ -1,0 +1,6 @@
+use Rattle.rom_mnemonic.proofs.Laws.{two_known}
+use borrow.Author.Rules.{rules}
+use Rattle.rom_move_words.proofs.put_exchange.Goals as goal
+
+pub returns : goal.returns
+returns c = search (two_known, rules)
