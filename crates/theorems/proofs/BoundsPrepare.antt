@@ -22,7 +22,7 @@ use Rattle.sheet.specs.Memory as memory
 use Rattle.sheet.specs.World.{World, psw_of, crossed}
 use Rattle.sheet.specs.Act.{Act, pure, flags, ◌>>=◌, registers, ◌≔◌, flag, psw, peek, halted, crossing, loop}
 use Rattle.sheet.specs.Handler.{nothing, run, run_by, tally}
-use Rattle.sheet.specs.Contract.{Seen, ends, exec, Ends, report, report_of}
+use Rattle.sheet.specs.Contract.{Seen, ends, exec, Ends, report, report_of, stops}
 use Rattle.sheet.specs.Traps.{push, push_psw, push_ps_pc, jump_far, save, vectored, entered, trap, untrapped}
 use Rattle.sheet.specs.Stack.{frame, frames, prepare, stack, pop_in}
 use Rattle.sheet.specs.Execute.{moving, operation, execute}
@@ -48,10 +48,12 @@ module _ {E : Type 0} where
       let z : m.cycles + n.cycles ≡ a + b = rw (h, g) in
       let y : E → m.dropped + n.dropped ≡ c + d = λ e. rw (k e, l e) in
       exactly q z y
+  plus_exactly {A = A} {Q = Q} m a b c d (stops _) h k x5 = elim x5 [ ]
 
   and_then_exactly : {A B : Type 0} {Q R : World → Type 0} {x : A} {y : B} (a b c d : ℕ) (e : Seen A) (f : A → World → Seen B) → Exactly E Q a c x e
       → ((v : World) → Q v → Exactly E R b d y (f x v)) → Exactly E R (a + b) (c + d) y (and_then e f)
   and_then_exactly a b c d (ends x v n) f (exactly q h k) g = plus_exactly n a b c d (f x v) h k (g v q)
+  and_then_exactly {A = A} {B = B} {Q = Q} {R = R} {y = y} a b c d (stops _) f x4 g = elim x4 [ ]
 
   next : {A B : Type 0} {Q R : World → Type 0} {a b c d : ℕ} {x : A} {y : B} (p : Act A) (f : A → Act B) (w : World) → Exactly E Q a c x (exec p w)
       → ((v : World) → Q v → Exactly E R b d y (exec (f x) v)) → Exactly E R (a + b) (c + d) y (exec (p >>= f) w)
@@ -238,6 +240,7 @@ module _ {E : Type 0} where
 taken : {E : Type 0} (w : World) (n d : ℕ) (e : Seen Unit) → Exactly E (λ x. Unit {0}) n d tt e
     → (x : World) × (m : Bus) × (report_of w e ≡ report 0 x m) × (m.cycles ≡ n) × (E → m.dropped ≡ d)
 taken w n d (ends tt x m) (exactly q h k) = (x, m, refl, h, k)
+taken {E = E} w n d (stops _) x'' = elim x'' [ ]
 
 module _ {E : Type 0} (w : World) (i : Instr) (n k d : ℕ) (f : Finds w i n) (h : Exactly E (λ x. Unit {0}) k d tt (exec (stepping i n) (starting i w))) where
   turns : Makes w k

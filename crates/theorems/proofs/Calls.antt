@@ -48,6 +48,7 @@ Positive (j ∷ l) = (1 ≤ j) × Positive l
 positive : (l : List ℕ) (k : ℕ) → Positive l → Among k l → 1 ≤ k
 positive (j ∷ l) k h first = h.0
 positive (j ∷ l) k h (later a) = positive l k h.1 a
+positive [] k h x'' = elim x'' [ ]
 
 ends_at_zero : (n : ℕ) (refusals : List ℕ) → Positive refusals → (w v : World) (b : Bus) (e : Seen Unit) → Comes n refusals e → report_of w e ≡ report 0 v b → e ≡ ends tt v b
 ends_at_zero n refusals p w v b (ends tt x m) (ends_in h) q =

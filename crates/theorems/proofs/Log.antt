@@ -91,6 +91,7 @@ unfolding AllSound
 also_sound [] [] h no_row = tt
 also_sound [] (r ∷ []) h (one_row s) = (s, tt)
 also_sound (r ∷ rs) qs h a = (h.0, also_sound rs qs h.1 a)
+also_sound [] (r ∷ (_ ∷ _)) h a = elim a [ ]
 
 -- THE LOG OF A RUN: one record for each port access, with its gap
 pub run_log : (k : ℕ) (w : World) (n : ℕ) (rs : List Row) → ((j : ℕ) → j < k → lendable (world_after j w) ≡ true) → Logged n rs w

@@ -244,6 +244,7 @@ module _ (x : ℕ) (m : Bool) (w : World) where
   entered : Passes w → w.state.marks.loaded ≡ false → (m && not (flag_of (psw_of w.state) IE)) ≡ false → (o : Outcome Unit) → run_by kept (interrupting x) w ≡ o → Silent o → InterruptOf x m w (seen o)
   unfolding run
   entered p l e (done tt v t) q (silent s) = taken p l e q
+  entered p l e (refused _ _) q x5 = elim x5 [ ]
 
   -- INTERRUPT
   pub interrupt_is_of : InterruptOf x m w (seen (interrupt x m w))

@@ -12,7 +12,7 @@ use Rattle.sheet.specs.Registers.{PSW, File, file_of, written}
 use Rattle.sheet.specs.Memory.{read_mem, write_mem, lost_bytes}
 use Rattle.sheet.specs.Log.{rule, key_of, record_bytes}
 use Rattle.sheet.specs.World.{World, with_state, with_ram, psw_of, with_file, with_psw, with_halted, crossed}
-use Rattle.sheet.specs.Act.{Act, pure, get, put, ask, copy, flags, load, store, input, output, halt, cross, ◌>>=◌}
+use Rattle.sheet.specs.Act.{Act, pure, get, put, ask, copy, flags, load, store, input, output, halt, cross, ◌>>=◌, refuse}
 use Rattle.sheet.specs.Handler.{Event, reads, writes, takes, gives, asks, copies, changes, Outcome, refused, done, then, Access, short, through, taped, recording, inputs, outputs, ported, run_by}
 use Rattle.theorems.specs.Rows.{rows_of}
 
@@ -42,6 +42,9 @@ quiet_seq {p = load b s o k} (q_load h) g = q_load λ v. quiet_seq (h v) g
 quiet_seq {p = store b s o v p} (q_store h) g = q_store (quiet_seq h g)
 quiet_seq {p = halt b p} (q_halt h) g = q_halt (quiet_seq h g)
 quiet_seq {p = cross c p} (q_cross h) g = q_cross (quiet_seq h g)
+quiet_seq {A = A} {B = B} {p = refuse _} {f = f} x6 g = elim x6 [ ]
+quiet_seq {A = A} {B = B} {p = input _ port _} {f = f} x8 g = elim x8 [ ]
+quiet_seq {A = A} {B = B} {p = output _ port v _} {f = f} x9 g = elim x9 [ ]
 
 -- its events make no record
 pub data Silent {A : Type 0} : Outcome A → Type 0 where
@@ -64,3 +67,6 @@ quiet_silent (load b g o k) (q_load h) u w = silent_then (reads b g o) (λ n t. 
 quiet_silent (store b g o v p) (q_store h) u w = silent_then (writes b g o v (lost_bytes b w.ram g o)) (λ n t. refl) (quiet_silent p h u (with_ram w (write_mem b w.ram g o v)))
 quiet_silent (halt b p) (q_halt h) u w = quiet_silent p h u (with_state w (with_halted w.state b))
 quiet_silent (cross c p) (q_cross h) u w = quiet_silent p h u (with_state w (crossed c w.state))
+quiet_silent {A = A} (refuse _) x'' u w = elim x'' [ ]
+quiet_silent {A = A} (input _ port _) x4 u w = elim x4 [ ]
+quiet_silent {A = A} (output _ port v _) x5 u w = elim x5 [ ]

@@ -1,5 +1,6 @@
 -- The single primitives that the claim compares with: what they keep, where their blocks are, what they leave alone.
 use Prim.Native.Nat.{ℕ, zero, suc, ◌≤◌, ◌<◌}
+use mathlib.Core.Logic.{◌≢◌}
 use mathlib.Core.Path.{◌≡◌, refl, sym, ap, ◌∙◌}
 use mathlib.Core.Bool.{Bool, true, false}
 use mathlib.Core.List.{List}
@@ -96,6 +97,6 @@ module _ (i : Block) (w : World) (m : of_memory i.kind ≡ true) where
         let a : ℕ = code_at (reg w PS) (reg w PC) c in
         rw (single_is v)
         (byte_spared i.kind i.word i.seg v.state.file v.ram v.rom a m
-        (λ low t. covers_by i.word (get_or v.state.file DS1 0) (get_or v.state.file IY 0)
+        (λ low t. covers_by {K = λ x. a ≢ x} i.word (get_or v.state.file DS1 0) (get_or v.state.file IY 0)
         (λ x u q. clean j c x (omega arith) t (target_is (writer_target i.kind t) j x u) (rw (singles_long j, q) at low) l (sym q)))
         ∙ singles_own clean j (omega arith) c l)

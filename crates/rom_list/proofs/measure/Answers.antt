@@ -1,0 +1,35 @@
+use Prim.Native.Nat.{◌-◌}
+use native.Mathlib.Omega.{arith}
+use Rattle.rom_form.specs.Listing.{top}
+use Rattle.rom_list.proofs.Laws.{Counting, counting_begun, counting_more, counted, moves}
+use Rattle.rom_list.proofs.measure.Goals as goal
+
+pub overflow_cast-a : goal.overflow_cast-a
+overflow_cast-a c = omega (arith, c.requires)
+
+pub overflow_sub-a : goal.overflow_sub-a
+overflow_sub-a c = omega (arith, c.requires)
+
+pub loop-a-init : goal.loop-a-init
+loop-a-init c = counting_begun _ c.requires
+
+pub measure_line-m-requires : goal.measure_line-m-requires
+measure_line-m-requires c = (c.loop-a.invariant.low, (c.loop-a-test.true, c.requires))
+
+pub overflow_add-sum : goal.overflow_add-sum
+overflow_add-sum c = omega (arith, (counting_more c.loop-a.invariant c.loop-a-test.true c.measure_line-m.ensures).small, (counting_more c.loop-a.invariant c.loop-a-test.true c.measure_line-m.ensures).high, c.requires)
+
+pub overflow_cast-a-in-loop-a : goal.overflow_cast-a-in-loop-a
+overflow_cast-a-in-loop-a c = let s = moves _ c.loop-a-test.true c.measure_line-m.ensures.counts in omega (arith, s.fits, s.few)
+
+pub overflow_add-a : goal.overflow_add-a
+overflow_add-a c = let s = moves _ c.loop-a-test.true c.measure_line-m.ensures.counts in omega (arith, s.fits, s.few)
+
+pub loop-a-smaller : goal.loop-a-smaller
+loop-a-smaller c = let s = moves _ c.loop-a-test.true c.measure_line-m.ensures.counts in omega (arith, s.some, s.fits)
+
+pub loop-a-preserved : goal.loop-a-preserved
+loop-a-preserved c = counting_more c.loop-a.invariant c.loop-a-test.true c.measure_line-m.ensures
+
+pub returns : goal.returns
+returns c = counted c.loop-a.invariant c.loop-a-test.false

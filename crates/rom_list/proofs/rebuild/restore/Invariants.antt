@@ -1,0 +1,14 @@
+use Prim.Native.Nat.{◌-◌}
+use native.Mathlib.Omega.{arith}
+use lib.ListN.{length}
+use borrow.Author.Rules.{rules}
+use Rattle.rom_list.proofs.Characters.{digit_bound}
+use Rattle.rom_list.proofs.Reading.{Going, begun, room_kept, line_ended, passed, put, too_long, all_read}
+use Rattle.rom_list.proofs.rebuild.restore.Given as goal
+
+-- `rom_list::rebuild::restore` meets its contract. The loop's invariant is `Going`.
+abbrev pub invariant-loop-i : goal.invariant-loop-i
+invariant-loop-i l = Going l.lines l.initial.image l.image l.column l.high l.len l.i
+
+abbrev pub decreases-loop-i : goal.decreases-loop-i
+decreases-loop-i l = length l.lines - l.i
