@@ -1,6 +1,7 @@
 // Addition, subtraction, the bitwise operations, INC, DEC, NOT and NEG, at either width and with all flags.
 // No function here has a precondition.
 #![tactic(auto)]
+
 ghost use Rattle.std.specs.Prelude.{◌≡◌, false};
 ghost use Rattle.sheet.specs.Psw.{CY, flag_of, becomes};
 ghost use Rattle.sheet.specs.Arithmetic.{resulting, sum, difference, logical, unary};

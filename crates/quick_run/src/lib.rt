@@ -1,4 +1,5 @@
 // A run that reads an instruction once and uses the reading again.
+#![tactic(auto)]
 mod step;
 pub mod taken;
 

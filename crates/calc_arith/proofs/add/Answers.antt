@@ -1,5 +1,4 @@
 use mathlib.Core.Path.{◌∙◌}
-use borrow.Author.Rules.{rules}
 use Rattle.calc_arith.proofs.add.Goals as goal
 
 pub returns : goal.returns

@@ -1,5 +1,4 @@
 use mathlib.Core.Path.{◌∙◌}
-use borrow.Author.Rules.{rules}
 use Rattle.sheet.specs.Arithmetic.{unary, sparing_cy, resulting}
 use Rattle.sheet.specs.Psw.{settled}
 use Rattle.sheet.specs.Contract.{flagged}

@@ -1,4 +1,3 @@
-use borrow.Author.Rules.{rules}
 use Rattle.sheet.specs.Arithmetic.{unary, complement}
 use Rattle.sheet.specs.Psw.{settled}
 use Rattle.sheet.specs.Contract.{flagged}

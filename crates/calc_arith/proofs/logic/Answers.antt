@@ -1,5 +1,4 @@
 use mathlib.Core.Path.{◌∙◌}
-use borrow.Author.Rules.{rules}
 use Rattle.sheet.specs.Arithmetic.{logical, resulting}
 use Rattle.sheet.specs.Psw.{settled}
 use Rattle.sheet.specs.Contract.{flagged}

@@ -1,4 +1,3 @@
-use borrow.Author.Rules.{rules}
 use Rattle.sheet.specs.Arithmetic.{difference}
 use Rattle.calc_arith.proofs.minus.Goals as goal
 

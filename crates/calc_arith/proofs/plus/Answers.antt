@@ -1,4 +1,3 @@
-use borrow.Author.Rules.{rules}
 use Rattle.sheet.specs.Arithmetic.{sum}
 use Rattle.calc_arith.proofs.plus.Goals as goal
 

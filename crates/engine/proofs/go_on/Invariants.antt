@@ -1,0 +1,19 @@
+use native.Mathlib.Omega.{arith}
+use borrow.Author.Rules.{rules}
+use borrow.Author.Tests.{not-true, not-false}
+use Prim.Native.Nat.{◌≤◌, ◌-◌}
+use mathlib.Core.Path.{◌≡◌}
+use lib.ListN.{length}
+use Rattle.sheet.specs.World.{world, state_of}
+use Rattle.step_answer.proofs.RunLaws.{Continues, continues_none, continues_more, runs_stop, runs_end}
+use Rattle.engine.proofs.go_on.Given as goal
+
+abbrev pub invariant-loop-steps : goal.invariant-loop-steps
+invariant-loop-steps l = (l.budget ≤ 65535)
+    × (l.steps ≤ l.budget)
+    × (length l.ram ≡ length l.initial.ram)
+    × (length l.log ≡ length l.initial.log)
+    × Continues (world (state_of l.initial.file l.initial.marks l.initial.q) l.initial.ram l.rom l.tape l.initial.log) (world (state_of l.file l.marks l.q) l.ram l.rom l.tape l.log) l.steps l.bus
+
+abbrev pub decreases-loop-steps : goal.decreases-loop-steps
+decreases-loop-steps l = l.budget - l.steps

@@ -1,0 +1,6 @@
+use borrow.Author.Rules.{rules}
+use Rattle.step_answer.proofs.RunLaws.{runs_refused}
+use Rattle.engine.proofs.run.Goals as goal
+
+pub returns-then-number-ne0 : goal.returns-then-number-ne0
+returns-then-number-ne0 c = search (runs_refused, rules)

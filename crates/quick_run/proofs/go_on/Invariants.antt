@@ -1,0 +1,22 @@
+use native.Mathlib.Omega.{arith}
+use borrow.Author.Rules.{rules}
+use Prim.Native.Nat.{◌≤◌, ◌-◌}
+use mathlib.Core.Path.{◌≡◌, refl, ap, ◌∙◌}
+use lib.ListN.{length}
+use borrow.Author.Tests.{lt-leb}
+use Rattle.quick_reading.specs.Readings.{Remembers}
+use Rattle.quick_stand.specs.Stand.{Lent}
+use Rattle.quick_run.proofs.Laws.{Goes, goes_none, goes_more, goes_fits, goes_stop, goes_end}
+use Rattle.quick_run.proofs.go_on.Given as goal
+
+abbrev pub invariant-loop-steps : goal.invariant-loop-steps
+invariant-loop-steps l = (l.budget ≤ 65535)
+    × (l.steps ≤ l.budget)
+    × (length l.ram ≡ length l.initial.ram)
+    × (length l.log ≡ length l.initial.log)
+    × Goes l.initial.file l.initial.stand l.initial.ram l.rom l.tape l.initial.log l.file l.stand l.ram l.log l.steps l.total
+    × Remembers l.memo
+    × Lent l.stand
+
+abbrev pub decreases-loop-steps : goal.decreases-loop-steps
+decreases-loop-steps l = l.budget - l.steps
