@@ -1,9 +1,5 @@
--- What each arm of the dispatch, and the bytes, come to. Assumes nothing.
-use Prim.Native.Nat.{ℕ}
-use mathlib.Core.List.{List}
-use mathlib.Core.Bool.{true≢false}
-use mathlib.Core.Path.{◌≡◌, refl}
-use lib.ListN.{replicate}
+-- What each arm of the dispatch, and the bytes, come to.
+use Rattle.std.proofs.Common.{ℕ, List, true≢false, ◌≡◌, refl, replicate}
 use Rattle.sheet.specs.declared.Bus.{Bus}
 use Rattle.sheet.specs.declared.State.{State}
 use Rattle.sheet.specs.declared.GapRule.{GapRule}
