@@ -1,37 +1,45 @@
 // Cases come from standard input one after the other, each gets one public call, and each result goes to standard output.
 use case_form::{Call, Case};
-use io::write_all;
-use libc::{STDERR_FILENO, STDIN_FILENO, STDOUT_FILENO};
 use sheet::State;
+use std::io::Print;
 
 // An array's length is known where it is lent as one.
-fn write_result(out: &[u8; 88]) -> bool {
-    write_all(STDOUT_FILENO, out)
+fn write_result(rt: HostRuntime, out: &[u8; 88]) -> bool {
+    rt.stdout().write_all(out).is_ok()
 }
 
-fn write_reading(out: &[u8; 17]) -> bool {
-    write_all(STDOUT_FILENO, out)
+fn write_reading(rt: HostRuntime, out: &[u8; 17]) -> bool {
+    rt.stdout().write_all(out).is_ok()
 }
 
-fn answer(s: State, ram: &mut [u8], rom: &[u8], tape: &[u8], log: &mut [u8], c: Case) -> bool {
+fn answer(
+    rt: HostRuntime,
+    s: State,
+    ram: &mut [u8],
+    rom: &[u8],
+    tape: &[u8],
+    log: &mut [u8],
+    c: Case,
+) -> bool {
     let call = c.call;
     if let Call::ReadLog = call {
         let rule = c.rule;
         let out = crate::call::reading(log, s.progress.log, rule);
-        write_reading(&out)
+        write_reading(rt, &out)
     } else {
         let out = crate::call::result(s, ram, rom, tape, log, c);
-        write_result(&out)
+        write_result(rt, &out)
     }
 }
 
 // Whether standard input had as many bytes as the buffer.
-fn read_whole(buffer: &mut [u8]) -> bool {
-    io::read_full(STDIN_FILENO, buffer) == buffer.len()
+fn read_whole(rt: HostRuntime, buffer: &mut [u8]) -> bool {
+    base_input::read_full(&mut rt.stdin(), buffer) == buffer.len()
 }
 
 // The rest of a case, over buffers of the lengths that it names.
 fn serve(
+    rt: HostRuntime,
     s: State,
     ram: &mut [u8],
     rom: &mut [u8],
@@ -40,31 +48,31 @@ fn serve(
     patches: &mut [u8],
     c: Case,
 ) -> bool {
-    if !read_whole(patches) {
+    if !read_whole(rt, patches) {
         return false;
     }
-    if !read_whole(tape) {
+    if !read_whole(rt, tape) {
         return false;
     }
     if !case_bytes::kinds(patches, patches.len() / 6) {
-        return unfit();
+        return unfit(rt);
     }
     crate::call::lay_out(ram, c.fill, 0, patches);
     crate::call::lay_out(rom, c.fill, 1, patches);
     crate::call::lay_out(log, c.fill, 2, patches);
-    answer(s, ram, rom, tape, log, c)
+    answer(rt, s, ram, rom, tape, log, c)
 }
 
-fn unfit() -> bool {
-    write_all(
-        STDERR_FILENO,
-        b"cases: the stream ends here: a case breaks its rules\n",
-    );
+fn unfit(rt: HostRuntime) -> bool {
+    let _ = rt
+        .stderr()
+        .write_all(b"cases: the stream ends here: a case breaks its rules\n");
     false
 }
 
 // The case of a header, unless it does not fit the buffers.
 fn lend(
+    rt: HostRuntime,
     s: State,
     ram: &mut [u8],
     rom: &mut [u8],
@@ -87,6 +95,7 @@ fn lend(
         patches.len(),
     ) {
         return serve(
+            rt,
             s,
             &mut ram[..m],
             &mut rom[..n],
@@ -96,11 +105,12 @@ fn lend(
             c,
         );
     }
-    unfit()
+    unfit(rt)
 }
 
 // One case; whether to go on.
 fn one(
+    rt: HostRuntime,
     ram: &mut [u8],
     rom: &mut [u8],
     tape: &mut [u8],
@@ -108,22 +118,30 @@ fn one(
     patches: &mut [u8],
 ) -> bool {
     let mut header = [0; 72];
-    if !read_whole(&mut header) {
+    if !read_whole(rt, &mut header) {
         return false;
     }
     if !case_form::good_header(&header) {
-        return unfit();
+        return unfit(rt);
     }
     let c = case_form::case_of(&header);
     let s = case_form::state_of(&header);
-    lend(s, ram, rom, tape, log, patches, c)
+    lend(rt, s, ram, rom, tape, log, patches, c)
 }
 
-// A proved loop has to end, and nothing says that the input does: the turns are counted down from a number that no run uses up.
-fn all(ram: &mut [u8], rom: &mut [u8], tape: &mut [u8], log: &mut [u8], patches: &mut [u8]) {
-    let mut turns = u64::MAX;
-    while turns > 0 && one(ram, rom, tape, log, patches) {
-        turns -= 1;
+// A proved loop has to end, and nothing says that the input does: no run uses up so many turns.
+fn all(
+    rt: HostRuntime,
+    ram: &mut [u8],
+    rom: &mut [u8],
+    tape: &mut [u8],
+    log: &mut [u8],
+    patches: &mut [u8],
+) {
+    for _ in 0..u64::MAX {
+        if !one(rt, ram, rom, tape, log, patches) {
+            return;
+        }
     }
 }
 
@@ -132,15 +150,19 @@ fn memory() -> [u8; 1048577] {
     [0; 1048577]
 }
 
+fn few_bytes() -> [u8; 4096] {
+    [0; 4096]
+}
+
 fn patch_bytes() -> [u8; 24576] {
     [0; 24576]
 }
 
-pub fn run() {
+pub fn run(rt: HostRuntime) {
     let mut ram = memory();
     let mut rom = memory();
-    let mut tape = io::buffer();
-    let mut log = io::buffer();
+    let mut tape = few_bytes();
+    let mut log = few_bytes();
     let mut patches = patch_bytes();
-    all(&mut ram, &mut rom, &mut tape, &mut log, &mut patches);
+    all(rt, &mut ram, &mut rom, &mut tape, &mut log, &mut patches);
 }

@@ -44,11 +44,11 @@ plays_spent {turns} {k} h e = record { done = k; is = h; ends = inr e }
 
 -- ---- sessions that are played in pieces
 
-turns_join : {plan : Plan} {k j : ℕ} {calls : List ℕ} {s s' s'' : Session} {ram rom tape log ram' log' ram'' log'' : List ℕ} → Turns calls plan s ram rom tape log k s' ram' log' → Turns calls plan s' ram' rom tape log' j s'' ram'' log'' → Turns calls plan s ram rom tape log (k + j) s'' ram'' log''
-turns_join {plan} {k} {j} {calls} {s} {s'} {s''} {ram} {rom} {tape} {log} {ram'} {log'} {ram''} {log''} h none =
+turns_join : {plan : Plan} {k : ℕ} {calls : List ℕ} {s s' : Session} {ram rom tape log ram' log' : List ℕ} {j : ℕ} {s'' : Session} {ram'' log'' : List ℕ} → Turns calls plan s ram rom tape log k s' ram' log' → Turns calls plan s' ram' rom tape log' j s'' ram'' log'' → Turns calls plan s ram rom tape log (k + j) s'' ram'' log''
+turns_join {plan} {k} {calls} {s} {s'} {ram} {rom} {tape} {log} {ram'} {log'} {j} {s''} {ram''} {log''} h none =
     let same : k ≡ k + 0 = omega arith in
     subst (λ (n : ℕ). Turns calls plan s ram rom tape log n s' ram' log') same h
-turns_join {plan} {k} {j} {calls} {s} {s'} {s''} {ram} {rom} {tape} {log} {ram'} {log'} {ram''} {log''} h (more {k = i} g o t) =
+turns_join {plan} {k} {calls} {s} {s'} {ram} {rom} {tape} {log} {ram'} {log'} {j} {s''} {ram''} {log''} h (more {k = i} g o t) =
     let same : k + i + 1 ≡ k + (i + 1) = omega arith in
     subst (λ (n : ℕ). Turns calls plan s ram rom tape log n s'' ram'' log'') same (more (turns_join h g) o t)
 

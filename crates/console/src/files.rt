@@ -2,7 +2,7 @@
 use console_files::Output;
 use console_turns::Session;
 
-#[derive(Clone, Copy)]
+#[derive(Drop)]
 pub struct Files {
     pub log: Output,
     pub ram: Output,
@@ -11,11 +11,11 @@ pub struct Files {
 }
 
 // Makes those that the arguments name.
-pub fn open() -> Files {
-    let log = console_files::open(4);
-    let ram = console_files::open(9);
-    let seen = console_files::open(10);
-    let report = console_files::open(13);
+pub fn open(rt: HostRuntime) -> Files {
+    let log = console_files::open(rt, 4);
+    let ram = console_files::open(rt, 9);
+    let seen = console_files::open(rt, 10);
+    let report = console_files::open(rt, 13);
     Files {
         log,
         ram,
@@ -24,21 +24,29 @@ pub fn open() -> Files {
     }
 }
 
-pub fn are_open(f: Files) -> bool {
+pub fn are_open(f: &Files) -> bool {
     f.log.ok & (f.ram.ok & (f.seen.ok & f.report.ok))
 }
 
-// Writes all but the report.
+// Writes all but the report, whose file it answers where it could.
 pub fn keep(
+    rt: HostRuntime,
     f: Files,
     s: Session,
     ram: &[u8],
     log: &[u8],
     keys: &[u32; 65536],
     counts: &[u64; 65536],
-) -> bool {
+) -> Option<Output> {
     let state = s.state;
-    console_files::keep(f.log, b"the log", log, state.progress.log)
-        && console_files::keep(f.ram, b"RAM", ram, ram.len())
-        && crate::watch::keep_counts(f.seen, keys, counts)
+    if !console_files::keep(rt, f.log, b"the log", log, state.progress.log) {
+        return None;
+    }
+    if !console_files::keep(rt, f.ram, b"RAM", ram, ram.len()) {
+        return None;
+    }
+    if !crate::watch::keep_counts(rt, f.seen, keys, counts) {
+        return None;
+    }
+    Some(f.report)
 }

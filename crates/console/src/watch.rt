@@ -36,18 +36,26 @@ fn traffic(s: Session, t: Session, to: usize) -> Traffic {
     }
 }
 
-fn print_step(words: Words, s: Session, t: Session, log: &[u8]) {
+fn print_step(rt: HostRuntime, words: Words, s: Session, t: Session, log: &[u8]) {
     let a = s.state;
     let b = t.state;
     let bus = traffic(s, t, words.to);
-    console_trace::write_step(words, t.steps, a, b, bus, log);
+    console_trace::write_step(&mut rt.stdout(), words, t.steps, a, b, bus, log);
 }
 
-fn print_call(call: u64, s: Session, t: Session, log: &[u8]) {
+fn print_call(rt: HostRuntime, call: u64, s: Session, t: Session, log: &[u8]) {
     let a = s.state;
     let b = t.state;
     let bus = traffic(s, t, STACK);
-    console_trace::write_call(call / 2 % 256, t.refused != s.refused, a, b, bus, log);
+    console_trace::write_call(
+        &mut rt.stdout(),
+        call / 2 % 256,
+        t.refused != s.refused,
+        a,
+        b,
+        bus,
+        log,
+    );
 }
 
 // The call that was made as the one of this number.
@@ -58,20 +66,28 @@ fn made(schedule: &[u64], n: usize) -> u64 {
     0
 }
 
-fn print_turn(words: Words, s: Session, t: Session, log: &[u8], schedule: &[u64]) {
+fn print_turn(rt: HostRuntime, words: Words, s: Session, t: Session, log: &[u8], schedule: &[u64]) {
     if t.made != s.made {
-        print_call(made(schedule, s.made), s, t, log);
+        print_call(rt, made(schedule, s.made), s, t, log);
     }
     if t.steps != s.steps {
-        print_step(words, s, t, log);
+        print_step(rt, words, s, t, log);
     }
 }
 
 // Prints what a turn did, where that is wanted.
-pub fn print(words: Words, s: Session, t: Session, log: &[u8], schedule: &[u64], w: Watch) {
+pub fn print(
+    rt: HostRuntime,
+    words: Words,
+    s: Session,
+    t: Session,
+    log: &[u8],
+    schedule: &[u64],
+    w: Watch,
+) {
     let wanted = !w.drops | (t.dropped != s.dropped);
     if wanted & is_printed(w, wrapping_add_u64(s.steps, 1)) {
-        print_turn(words, s, t, log, schedule);
+        print_turn(rt, words, s, t, log, schedule);
     }
 }
 
@@ -85,13 +101,22 @@ pub fn count(s: Session, t: Session, w: Watch, keys: &mut [u32; 65536], counts: 
 }
 
 // Writes the counts, where they are wanted.
-pub fn keep_counts(out: Output, keys: &[u32; 65536], counts: &[u64; 65536]) -> bool {
+pub fn keep_counts(
+    rt: HostRuntime,
+    out: Output,
+    keys: &[u32; 65536],
+    counts: &[u64; 65536],
+) -> bool {
     if !out.wanted {
         return true;
     }
-    if console_trace::seen::write_counts(out.fd, keys, counts) {
+    let written = match out.file {
+        Some(mut file) => console_trace::seen::write_counts(&mut file, keys, counts),
+        None => false,
+    };
+    if written {
         return true;
     }
-    console_files::say(b"v30: cannot write the addresses\n");
+    console_files::say(rt, b"v30: cannot write the addresses\n");
     false
 }

@@ -1,5 +1,7 @@
 // Numbers in text, and the schedule of interrupt calls: a line for each, `STEP VECTOR maskable` or `STEP VECTOR unmaskable`,
 // where `#` begins a remark.
+#![tactic(auto)]
+
 ghost use Rattle.std.specs.Prelude.{◌≡◌, ◌≤◌, ◌<◌, ◌+◌, length};
 
 // The largest number that is read; what is above it, or is no number, is read as `NONE`.

@@ -1,14 +1,16 @@
 // What a person sees of a machine: the instruction at PS:PC in the listing's words, registers and flags by name, and the line of a step.
 // Texts go into lines of 80 bytes, where what does not fit is left out.
+#![tactic(auto)]
+
 mod registers;
 pub mod seen;
 pub mod target;
 
 use base_line::{put_byte, put_hex, put_word};
 use code_answer::Decoded;
-use libc::STDOUT_FILENO;
 use mach_registers::{BP, PC, PS, PSW, SP, SS};
 use sheet::{Entry, GapRule, Instr, State};
+use std::io::Write;
 
 // A line of spaces.
 pub fn blank() -> [u8; 80] {
@@ -16,9 +18,9 @@ pub fn blank() -> [u8; 80] {
 }
 
 // Writes a line's text up to its end.
-pub fn write(fd: i32, line: [u8; 80], end: usize) -> bool {
+pub fn write(out: &mut impl Write, line: [u8; 80], end: usize) -> bool {
     let n = console_files::within(end, &line);
-    io::write_all(fd, &line[..n])
+    out.write_all(&line[..n]).is_ok()
 }
 
 // A number in decimal digits.
@@ -265,7 +267,15 @@ pub fn next_words(s: State, ram: &[u8], rom: &[u8]) -> Words {
 }
 
 // A line: its words, and behind them what a step or a call changed. Where that is nothing no spaces stand at the end.
-fn write_line(words: [u8; 80], end: usize, s: State, t: State, bus: Traffic, log: &[u8]) -> bool {
+fn write_line(
+    out: &mut impl Write,
+    words: [u8; 80],
+    end: usize,
+    s: State,
+    t: State,
+    bus: Traffic,
+    log: &[u8],
+) -> bool {
     let a = s.file;
     let b = t.file;
     let mut changes = blank();
@@ -280,16 +290,23 @@ fn write_line(words: [u8; 80], end: usize, s: State, t: State, bus: Traffic, log
     } else {
         column(end)
     };
-    write(STDOUT_FILENO, words, pad)
-        & (write(STDOUT_FILENO, changes, n)
-            & (write(STDOUT_FILENO, effects, m) & write(STDOUT_FILENO, drops, stop)))
+    write(out, words, pad)
+        & (write(out, changes, n) & (write(out, effects, m) & write(out, drops, stop)))
 }
 
 // The line of a step, whose words were put before it was done.
-pub fn write_step(words: Words, step: u64, s: State, t: State, bus: Traffic, log: &[u8]) -> bool {
+pub fn write_step(
+    out: &mut impl Write,
+    words: Words,
+    step: u64,
+    s: State,
+    t: State,
+    bus: Traffic,
+    log: &[u8],
+) -> bool {
     let mut line = words.line;
     put_decimal(&mut line, begin(step), step);
-    write_line(line, words.end, s, t, bus, log)
+    write_line(out, line, words.end, s, t, bus, log)
 }
 
 fn put_call(line: &mut [u8; 80], vector: u64, refused: bool) -> usize {
@@ -303,6 +320,7 @@ fn put_call(line: &mut [u8; 80], vector: u64, refused: bool) -> usize {
 
 // The line of an interrupt call.
 pub fn write_call(
+    out: &mut impl Write,
     vector: u64,
     refused: bool,
     s: State,
@@ -312,29 +330,29 @@ pub fn write_call(
 ) -> bool {
     let mut line = blank();
     let end = put_call(&mut line, vector, refused);
-    write_line(line, end, s, t, bus, log)
+    write_line(out, line, end, s, t, bus, log)
 }
 
 // ---- the end of a session
 
 // A line without the two spaces that it begins with.
-fn write_behind(fd: i32, line: [u8; 80], end: usize) -> bool {
+fn write_behind(out: &mut impl Write, line: [u8; 80], end: usize) -> bool {
     let n = console_files::within(end, &line);
     if n < 2 {
         return true;
     }
-    io::write_all(fd, &line[2..n])
+    out.write_all(&line[2..n]).is_ok()
 }
 
 // All registers: two lines.
-pub fn write_registers(fd: i32, file: [u16; 14]) -> bool {
+pub fn write_registers(out: &mut impl Write, file: [u16; 14]) -> bool {
     let mut general = blank();
     let n = registers::put_span(&mut general, 0, 0, 8, file, file, true);
     let stop = put_byte(&mut general, n, b'\n');
-    write_behind(fd, general, stop) & write_others(fd, file)
+    write_behind(out, general, stop) & write_others(out, file)
 }
 
-fn write_others(fd: i32, file: [u16; 14]) -> bool {
+fn write_others(out: &mut impl Write, file: [u16; 14]) -> bool {
     let mut line = blank();
     let x = registers::put_segments(&mut line, 0, file, file, true);
     let y = put_word(&mut line, x, b"  PC ");
@@ -342,24 +360,24 @@ fn write_others(fd: i32, file: [u16; 14]) -> bool {
     let p = put_word(&mut line, z, b"  PSW ");
     let q = put_hex(&mut line, p, file[PSW] as u64, 4);
     let stop = put_byte(&mut line, q, b'\n');
-    write_behind(fd, line, stop)
+    write_behind(out, line, stop)
 }
 
 // The instruction that would be next, and the flags: two lines.
-pub fn write_stand(fd: i32, s: State, ram: &[u8], rom: &[u8]) -> bool {
+pub fn write_stand(out: &mut impl Write, s: State, ram: &[u8], rom: &[u8]) -> bool {
     let file = s.file;
     let psw = file[PSW];
     let mut flags = blank();
     let x = put_word(&mut flags, 0, b"flags");
     let y = registers::put_flags(&mut flags, x, psw, psw, true);
     let n = put_byte(&mut flags, y, b'\n');
-    write(fd, flags, n) & write_next(fd, file, ram, rom)
+    write(out, flags, n) & write_next(out, file, ram, rom)
 }
 
-fn write_next(fd: i32, file: [u16; 14], ram: &[u8], rom: &[u8]) -> bool {
+fn write_next(out: &mut impl Write, file: [u16; 14], ram: &[u8], rom: &[u8]) -> bool {
     let mut line = blank();
     let x = put_word(&mut line, 0, b"at ");
     let there = put_there(&mut line, x, file, ram, rom);
     let n = put_byte(&mut line, there.end, b'\n');
-    write(fd, line, n)
+    write(out, line, n)
 }

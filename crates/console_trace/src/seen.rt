@@ -1,5 +1,6 @@
 // How often the instruction at each address ran: a table of addresses, each one above what it is so that 0 is free, and of their counts.
 use base_line::{put_byte, put_hex};
+use std::io::Write;
 use std::num::wrapping_add_u64;
 
 // The place of an address in the table, or a free one; a full table has none.
@@ -27,17 +28,17 @@ pub fn count(keys: &mut [u32; 65536], counts: &mut [u64; 65536], ps: u16, pc: u1
     }
 }
 
-fn write_line(fd: i32, a: u32, n: u64) -> bool {
+fn write_line(out: &mut impl Write, a: u32, n: u64) -> bool {
     let mut line = crate::blank();
     let x = put_hex(&mut line, 0, a as u64, 5);
     let y = put_byte(&mut line, x, b' ');
     let z = crate::put_decimal(&mut line, y, n);
     let end = put_byte(&mut line, z, b'\n');
-    crate::write(fd, line, end)
+    crate::write(out, line, end)
 }
 
 // The line of an address, where its instruction ran.
-fn write_count(fd: i32, keys: &[u32; 65536], counts: &[u64; 65536], a: u32) -> bool {
+fn write_count(out: &mut impl Write, keys: &[u32; 65536], counts: &[u64; 65536], a: u32) -> bool {
     let i = place(keys, std::num::wrapping_add_u32(a, 1));
     if 65536 <= i {
         return true;
@@ -46,15 +47,15 @@ fn write_count(fd: i32, keys: &[u32; 65536], counts: &[u64; 65536], a: u32) -> b
     if n == 0 {
         return true;
     }
-    write_line(fd, a, n)
+    write_line(out, a, n)
 }
 
 // A line for each address whose instruction ran, in their order.
-pub fn write_counts(fd: i32, keys: &[u32; 65536], counts: &[u64; 65536]) -> bool {
+pub fn write_counts(out: &mut impl Write, keys: &[u32; 65536], counts: &[u64; 65536]) -> bool {
     let mut a: u32 = 0;
     let mut ok = true;
     while a < 1048576 {
-        ok = ok & write_count(fd, keys, counts, a);
+        ok = ok & write_count(out, keys, counts, a);
         a = a + 1;
     }
     ok

@@ -1,4 +1,6 @@
 // Reads Intel HEX into a ROM image.
-fn main() {
-    hex_run::from_hex();
+#![tactic(auto)]
+
+fn main(rt: HostRuntime) {
+    hex_run::from_hex(rt);
 }

@@ -1,6 +1,8 @@
 // Lists the port log on standard input, as the engine writes it. In the gate: document 01's sample.
+#![tactic(auto)]
+
 use sheet::GapRule;
 
-fn main() {
-    log_run::run(GapRule::New);
+fn main(rt: HostRuntime) {
+    log_run::run(rt, GapRule::New);
 }

@@ -1,7 +1,8 @@
 // The listing program as a library, so that a program over it is one call. What is printed is `log_listing::report`'s to say.
-use io::write_all;
-use libc::{STDERR_FILENO, STDIN_FILENO, STDOUT_FILENO};
+#![tactic(auto)]
+
 use sheet::GapRule;
+use std::io::Print;
 
 // The buffers come from functions: of a call's result the length is known, and no check computes its elements.
 
@@ -15,22 +16,26 @@ fn output_buffer() -> [u8; 786472] {
     [0; 786472]
 }
 
+fn say(rt: HostRuntime, text: &[u8]) {
+    let _ = rt.stderr().write_all(text);
+}
+
 // Prints the listing of a log that was written under a rule.
-fn print(log: &[u8], rule: GapRule) {
+fn print(rt: HostRuntime, log: &[u8], rule: GapRule) {
     let mut out = output_buffer();
     let n = log_listing::report(log, rule, &mut out);
-    if !write_all(STDOUT_FILENO, &out[..n]) {
-        write_all(STDERR_FILENO, b"listlog: cannot write the listing\n");
+    if rt.stdout().write_all(&out[..n]).is_err() {
+        say(rt, b"listlog: cannot write the listing\n");
     }
 }
 
 // Prints the listing of the log on standard input.
-pub fn run(rule: GapRule) {
+pub fn run(rt: HostRuntime, rule: GapRule) {
     let mut input = input_buffer();
-    let n = io::read_full(STDIN_FILENO, &mut input);
-    if n == 65537 || base_input::at_end() {
-        print(&input[..n], rule);
+    let n = base_input::read_full(&mut rt.stdin(), &mut input);
+    if n == 65537 || base_input::at_end(&mut rt.stdin()) {
+        print(rt, &input[..n], rule);
     } else {
-        write_all(STDERR_FILENO, b"listlog: cannot read the input\n");
+        say(rt, b"listlog: cannot read the input\n");
     }
 }

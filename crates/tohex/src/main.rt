@@ -1,4 +1,6 @@
 // Writes a ROM image as Intel HEX.
-fn main() {
-    hex_run::to_hex();
+#![tactic(auto)]
+
+fn main(rt: HostRuntime) {
+    hex_run::to_hex(rt);
 }
