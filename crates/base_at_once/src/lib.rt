@@ -1,5 +1,6 @@
 // Numbers moved by many places at once: doubled or halved so often, or turned round among so many bits.
 #![tactic(auto)]
+
 ghost use Rattle.std.specs.Prelude.{◌≡◌, ◌+◌, ◌*◌, ◌%◌, ◌^◌, ◌≤◌, ◌<◌, min};
 ghost use Rattle.base_at_once.specs.AtOnce.{down_by, right_by, around, turns};
 

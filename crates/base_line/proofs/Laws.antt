@@ -1,13 +1,13 @@
 -- Texts put into a line one after the other.
 use Prim.Native.Nat.{ℕ, ◌+◌, ◌≤◌, ◌<◌}
-use mathlib.Core.Path.{◌≡◌, refl, sym, ◌∙◌, ap}
+use mathlib.Core.Path.{◌≡◌, ◌∙◌, ap}
 use mathlib.Core.List.{List, [], ◌∷◌, ◌++◌, append_assoc, append-nil}
 use native.Mathlib.Omega.{arith}
 use native.Mathlib.Nat.{lt_irrefl}
 use native.Mathlib.Numerals.{add-one}
-use lib.ListN.{length, take, set, length-append, length-set}
+use lib.ListN.{length, set, length-append, length-set}
 use lib.Seq.{take-suc-set}
-use Rattle.base_line.specs.Adds.{Holds, Adds}
+use Rattle.base_line.specs.Adds.{Adds}
 
 pub nothing : (line : List ℕ) (at : ℕ) → Adds [] line at at line
 nothing line at = record { adds = λ t m h. rw (append-nil t) h }

@@ -1,5 +1,5 @@
 -- What is said of a function that puts text into a line.
-use Rattle.std.specs.Prelude.{ℕ, ◌+◌, ◌≤◌, ◌≡◌, List, ◌++◌, length, take}
+use Rattle.std.specs.Prelude.{ℕ, ◌≤◌, ◌≡◌, List, ◌++◌, length, take}
 use Rattle.std.specs.Borrow.{MutBor}
 use denote.Triple.Both.{Both}
 

@@ -1,6 +1,7 @@
 // A line of text that grows: each function puts its text behind what stands there, and returns where the text ends.
 // Where the room does not do, what is left of the line means nothing; who builds a line knows that it is short enough.
 #![tactic(auto)]
+
 ghost use Rattle.std.specs.Prelude.{[], ◌∷◌};
 ghost use Rattle.base_text.specs.Text.{hex};
 ghost use Rattle.base_line.specs.Adds.{AddsTo};

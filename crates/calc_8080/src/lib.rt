@@ -1,6 +1,7 @@
 // Results of bytes with the flags of the uPD8080AF: sums, differences, bitwise results, DAA, rotates. V stays.
 // No function here has a precondition.
 #![tactic(auto)]
+
 ghost use Rattle.std.specs.Prelude.{◌≡◌, true, false};
 ghost use Rattle.sheet.specs.Psw.{AC, CY, flag_of, blank};
 ghost use Rattle.sheet.specs.Arithmetic.{added, carry};

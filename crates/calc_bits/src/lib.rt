@@ -1,5 +1,6 @@
 // One bit of an operand, for TEST1, CLR1, SET1 and NOT1. No function here has a precondition: a bit's number is cut to the operand's width.
 #![tactic(auto)]
+
 ghost use Rattle.std.specs.Prelude.{◌≡◌, ◌≤◌, ◌^◌};
 ghost use Rattle.sheet.specs.Psw.{keeps, column, settled};
 ghost use Rattle.sheet.specs.Bits.{bit_number, bit_at, with_bit, bit_column};

@@ -1,5 +1,6 @@
 // ADJ4A, ADJ4S, ADJBA, ADJBS, CVTBD, CVTDB, CVTBW, CVTWL on AL or AW and PSW. No public function has a precondition.
 #![tactic(auto)]
+
 ghost use Rattle.std.specs.Prelude.{◌≡◌, true, ◌+◌, ◌*◌, ◌/◌, ◌%◌, ◌≤◌};
 ghost use Rattle.sheet.specs.Width.{extend, pick, sign_of};
 ghost use Rattle.sheet.specs.Psw.{AC, CY, flag_of};

@@ -5,7 +5,6 @@ use Prim.Native.Nat.{ℕ, ◌+◌, ◌-◌, ◌*◌, ◌/◌, ◌%◌, ◌≤◌
 use native.Mathlib.Omega.{arith}
 use borrow.Author.Tests.{ltb-true, ltb-false, leb-true, leb-false, lt-ltb, le-ltb, lt-leb}
 use lib.Dec.{ltb, leb, lit≤}
-use Rattle.sheet.specs.declared.Digits.{Digits}
 use Rattle.sheet.specs.Width.{wrap_of, pick}
 use Rattle.sheet.specs.Psw.{bit}
 use Rattle.sheet.specs.declared.Way.{Way}

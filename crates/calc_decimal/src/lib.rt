@@ -1,5 +1,6 @@
 // Packed decimal: a byte adjusted, one byte of ADD4S, SUB4S and CMP4S, the digits of ROL4 and ROR4. No function here has a precondition.
 #![tactic(auto)]
+
 ghost use Rattle.std.specs.Prelude.{◌≡◌, ◌+◌, ◌*◌, ◌/◌, ◌%◌, ◌≤◌};
 ghost use Rattle.sheet.specs.Width.{add16};
 ghost use Rattle.sheet.specs.Adjust.{adjusted, digits_of, plain};

@@ -1,9 +1,9 @@
 -- When a quotient stands: exactly for a divisor other than 0 and a quotient within the limits. Otherwise the trap is taken.
-use mathlib.Core.Path.{◌≡◌, refl, ◌∙◌}
+use mathlib.Core.Path.{◌≡◌, refl}
 use mathlib.Core.Bool.{Bool, true, false}
 use mathlib.Core.Logic.{◌≢◌}
 use Prim.Native.Nat.{ℕ, ◌*◌, ◌/◌, ◌%◌, ◌+◌, ◌≤◌, ◌<◌}
-use lib.Dec.{eqb, ltb}
+use lib.Dec.{eqb}
 use lib.IntN.{ℤ, nat_abs}
 use lib.Signed.{quot_z, rem_z}
 use borrow.Author.Tests.{eqb-true, lt-ltb, le-ltb}

@@ -1,5 +1,6 @@
 // Quotients and remainders of DIVU and DIV at either width, or the trap to vector 0. No public function has a precondition.
 #![tactic(auto)]
+
 ghost use Rattle.std.specs.Prelude.{◌≡◌, ◌≤◌, ◌<◌, pos};
 ghost use Rattle.std.specs.Int.Signed.{mag, quot_z, rem_z};
 ghost use Rattle.sheet.specs.Multiply.{bits_of, quoted, signed_quotient, span_of, stands, unsigned_quotient};

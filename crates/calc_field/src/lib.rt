@@ -1,5 +1,6 @@
 // The words of INS and EXT: a bit field put in or taken out. The offset and the length's code are given as they stand in their registers.
 #![tactic(auto)]
+
 ghost use Rattle.std.specs.Prelude.{◌≡◌, ◌+◌, ◌-◌, ◌/◌, ◌%◌, ◌^◌, ◌<◌, ◌≤◌, min};
 ghost use Rattle.sheet.specs.Fields.{replaced, field_of};
 

@@ -1,5 +1,6 @@
 // PSW in code: its flags one by one and together, MD, and its fixed bits. No function here has a precondition.
 #![tactic(auto)]
+
 ghost use Rattle.std.specs.Prelude.{◌≡◌};
 ghost use Rattle.sheet.specs.Psw.{CY, P, AC, Z, S, BRK, IE, DIR, OV, flag_of, native_of, pack, fixed_of};
 ghost use Rattle.calc_flags.specs.Flags.{held, unpacked};

@@ -1,5 +1,6 @@
 // Products of MULU and MUL at either width. No public function has a precondition.
 #![tactic(auto)]
+
 ghost use Rattle.std.specs.Prelude.{◌≡◌, ◌<◌, ◌*ℤ◌};
 ghost use Rattle.std.specs.Int.Signed.{mag};
 ghost use Rattle.sheet.specs.Psw.{column, keeps, settled};

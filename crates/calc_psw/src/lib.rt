@@ -1,5 +1,6 @@
 // PSW after an instruction: a column applied, one flag set, a trap entered, stored flags taken back, the mode changed. No preconditions.
 #![tactic(auto)]
+
 ghost use Rattle.std.specs.Prelude.{true, ◌≡◌};
 ghost use Rattle.sheet.specs.Psw.{CY, IE, DIR, flag_of, native_of, pack, becomes, columns, column, only, entering, keeps, settled, in_mode};
 ghost use Rattle.calc_psw.specs.Control.{controls};

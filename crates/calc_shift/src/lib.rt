@@ -1,5 +1,6 @@
 // Shifts and rotates at either width, by the fixed 1 and by a count. No function here has a precondition.
 #![tactic(auto)]
+
 ghost use Rattle.std.specs.Prelude.{◌≡◌};
 ghost use Rattle.sheet.specs.Psw.{CY, flag_of, becomes};
 ghost use Rattle.sheet.specs.Shift.{leftward, comes_in, to_left, to_right, one_place, many_places};

@@ -1,6 +1,7 @@
 // All places of a shift or rotate but the last, at once. The last place is taken by itself: the bit that goes out there is CY.
 // Every u16 is taken, as the definition takes it; that a byte cannot hold some of them matters to `fit` and to whole turns alone.
 #![tactic(auto)]
+
 ghost use Rattle.std.specs.Prelude.{◌≡◌, ◌+◌, ◌<◌, ◌≤◌};
 ghost use Rattle.sheet.specs.declared.Shift.TheVariants.{Rol, Ror, Rolc, Rorc, Shl, Shr, Shra};
 ghost use Rattle.sheet.specs.Width.{pick, mod_of};

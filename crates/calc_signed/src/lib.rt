@@ -1,5 +1,6 @@
 // Signed numbers: both widths are read as i64.
 #![tactic(auto)]
+
 ghost use Rattle.std.specs.Prelude.{◌≡◌};
 ghost use Rattle.sheet.specs.Width.{signed_of, bits32};
 

@@ -1,6 +1,7 @@
 // The two widths of an operand in code: `word` is the sheet's bit W, true for a word and false for a byte.
 // No function here has a precondition.
 #![tactic(auto)]
+
 ghost use Rattle.std.specs.Prelude.{◌≡◌, ◌≤◌};
 ghost use Rattle.sheet.specs.Width.{pick, mod_of, half_of, bytes_of, wrap_of, sign_of, even_of, add16, sub16, extend};
 ghost use Rattle.sheet.specs.Psw.{bit};

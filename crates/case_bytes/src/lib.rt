@@ -1,5 +1,6 @@
 // The bytes of a case stream: numbers of two and four bytes, and buffers that are filled, patched and summed.
 #![tactic(auto)]
+
 ghost use Rattle.std.specs.Prelude.{◌≡◌, ◌+◌, ◌*◌, ◌≤◌, length, replicate, set};
 ghost use Rattle.case_bytes.specs.Numbers.{word_of, word_at, double_of, double_at, word_put, double_put};
 ghost use Rattle.case_bytes.specs.Buffers.{mixed, sum_of, patched_at, patched, kinds_of};

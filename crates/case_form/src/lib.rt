@@ -1,5 +1,6 @@
 // A case's header, and the results of its call, as the stream has them.
 #![tactic(auto)]
+
 ghost use Rattle.std.specs.Prelude.{◌≡◌, ◌<◌};
 ghost use Rattle.case_form.specs.Form.{place_of, good_header, file_of, state_of, rule_of, call_of, case_of, fits_in, with_file, with_answer};
 ghost use Rattle.case_form.specs.Form.{with_tally, with_places, with_call, with_sums, result_of, with_record, with_entry};

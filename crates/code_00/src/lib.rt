@@ -1,5 +1,6 @@
 // The first bytes 00 to 3F, by their low three bits: eight operations in six codes each, then segments, 0F and decimal adjusts.
 #![tactic(auto)]
+
 ghost use Rattle.std.specs.Prelude.{◌≡◌, ◌%◌, ◌≤◌, ◌<◌};
 ghost use Rattle.sheet.specs.Reading.{got};
 ghost use Rattle.code_answer.specs.Lent.{lent_code};

@@ -1,5 +1,6 @@
 // The second bytes after 0F: bits, decimal strings and digits, bit fields, BRKEM.
 #![tactic(auto)]
+
 ghost use Rattle.std.specs.Prelude.{◌≤◌, ◌<◌};
 ghost use Rattle.sheet.specs.Groups.{Decimals};
 ghost use Rattle.sheet.specs.declared.Decimal.TheVariants.{Rol4, Ror4};

@@ -1,5 +1,6 @@
 // The first bytes 40 to 7F.
 #![tactic(auto)]
+
 ghost use Rattle.std.specs.Prelude.{◌≤◌, ◌<◌};
 ghost use Rattle.sheet.specs.declared.Instr.TheVariants.{Multiplies, Interrupts};
 ghost use Rattle.sheet.specs.declared.Multiply.TheVariants.{MulByte, MulWord};

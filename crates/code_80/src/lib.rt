@@ -1,5 +1,6 @@
 // The first bytes 80 to 8F.
 #![tactic(auto)]
+
 ghost use Rattle.std.specs.Prelude.{ℕ, ◌≤◌, ◌<◌};
 ghost use Rattle.sheet.specs.Groups.{Transfers, Stacks};
 ghost use Rattle.sheet.specs.declared.Transfer.TheVariants.{Ldea};

@@ -1,5 +1,6 @@
 // The instructions of the 8080 mode. There are no prefixes.
 #![tactic(auto)]
+
 ghost use Rattle.sheet.specs.Step.{code_byte};
 ghost use Rattle.sheet.specs.CardCodes.{card_of, card};
 ghost use Rattle.code_8080_answer.specs.CardAnswer.{CardDecodes};

@@ -1,6 +1,7 @@
 // What bytes name in the 8080 mode, one constructor for each group, and what the fields of its codes name.
 // No function here has a precondition.
 #![tactic(auto)]
+
 ghost use Rattle.std.specs.Prelude.{◌≡◌};
 ghost use Rattle.sheet.specs.declared.cards.Card.TheVariants.{Transfers, Ports, Controls, Points, Calculates, Branches, Stacks, Modes};
 ghost use Rattle.sheet.specs.CardPlaces.{operand_at, card_pair_at, condition_at};

@@ -1,5 +1,6 @@
 // The first bytes C0 to FF of the 8080 mode, by their fields of three and three bits.
 #![tactic(auto)]
+
 ghost use Rattle.std.specs.Prelude.{◌%◌, ◌≤◌, ◌≡◌};
 ghost use Rattle.sheet.specs.Step.{code_byte};
 ghost use Rattle.sheet.specs.CardCodes.{cards11};

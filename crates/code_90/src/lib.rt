@@ -1,5 +1,6 @@
 // The first bytes 90 to BF.
 #![tactic(auto)]
+
 ghost use Rattle.std.specs.Prelude.{◌≤◌, ◌<◌};
 ghost use Rattle.code_answer.specs.Lent.{lent_code};
 ghost use Rattle.sheet.specs.FirstByte.{bytes80};

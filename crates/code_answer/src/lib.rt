@@ -1,6 +1,7 @@
 // What bytes name, by the groups of section 8: one constructor for each that several crates name, since an instruction is a large
 // value to the prover.
 #![tactic(auto)]
+
 ghost use Rattle.std.specs.Prelude.{◌≡◌};
 ghost use Rattle.sheet.specs.declared.Instr.TheVariants.{Computes, Moves, Multiplies, Interrupts, Ports, Controls, Blocks, Modes};
 ghost use Rattle.sheet.specs.Groups.{Transfers, Calculates, Converts, Stacks, Branches, Tests, Shifts};

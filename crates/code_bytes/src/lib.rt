@@ -1,5 +1,6 @@
 // Code bytes, one after the other: the source is RAM, ROM, PS and PC, and i says how many were read so far.
 #![tactic(auto)]
+
 ghost use Rattle.std.specs.Prelude.{ℕ, ◌+◌, ◌≤◌};
 ghost use Rattle.sheet.specs.Reading.{byte, word as wordRead, signed_byte, immediate as immediateRead};
 ghost use Rattle.code_answer.specs.Lent.{lent_code};

@@ -1,5 +1,6 @@
 // The first bytes C0 to CF.
 #![tactic(auto)]
+
 ghost use Rattle.std.specs.Prelude.{◌≤◌, ◌<◌};
 ghost use Rattle.sheet.specs.Groups.{Transfers};
 ghost use Rattle.sheet.specs.declared.Transfer.TheVariants.{LoadPointer};

@@ -1,5 +1,6 @@
 // The first bytes D0 to DF.
 #![tactic(auto)]
+
 ghost use Rattle.std.specs.Prelude.{◌≤◌, ◌<◌};
 ghost use Rattle.sheet.specs.Reading.{got};
 ghost use Rattle.code_answer.specs.Lent.{lent_code};

@@ -1,5 +1,6 @@
 // The decoder: prefixes, and the instruction that follows them.
 #![tactic(auto)]
+
 mod first;
 
 ghost use Rattle.code_answer.specs.Lent.{lent_code};

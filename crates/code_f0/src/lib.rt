@@ -1,5 +1,6 @@
 // The first bytes F0 to FF; those of them that are prefixes name no instruction.
 #![tactic(auto)]
+
 ghost use Rattle.std.specs.Prelude.{◌≡◌, ◌≤◌};
 ghost use Rattle.sheet.specs.Groups.{Branches};
 ghost use Rattle.sheet.specs.declared.Branch.TheVariants.{CallFarAt, BrFarAt};

@@ -1,5 +1,6 @@
 // The decoder of both modes.
 #![tactic(auto)]
+
 ghost use Rattle.sheet.specs.Width.{pick};
 ghost use Rattle.sheet.specs.FirstByte.{instruction};
 ghost use Rattle.sheet.specs.CardCodes.{card_instruction};

@@ -1,5 +1,6 @@
 // The mod-reg-mem byte: the register or the address that it names, with the bytes that follow it.
 #![tactic(auto)]
+
 ghost use Rattle.std.specs.Prelude.{◌≡◌, ℕ, ◌≤◌, ◌<◌, get_or};
 ghost use Rattle.std.proofs.Math.Option.{none, some};
 ghost use Rattle.sheet.specs.declared.Instr.TheVariants.{Blocks};

@@ -1,5 +1,6 @@
 // The prefixes of an instruction, and the byte that follows them.
 #![tactic(auto)]
+
 ghost use Rattle.std.specs.Prelude.{◌≡◌, ◌≤◌};
 ghost use Rattle.std.proofs.Math.Option.{some};
 ghost use Rattle.sheet.specs.Encoding.{segment_prefix, repeat_prefix, prefix_of, unprefixed};

@@ -1,6 +1,7 @@
 // What the turns of a session are made of, apart from the calls on the machine: the stand, the next call of the schedule, the
 // steps of a run, and the stand after a call or a run.
 #![tactic(auto)]
+
 ghost use Rattle.std.specs.Prelude.{◌≡◌, ◌-◌, ◌<◌, min, ◌==◌};
 ghost use Rattle.sheet.specs.Width.{pick};
 ghost use Rattle.console_turns.specs.Stand.{begun, next_of, coming_of, is_called, budget_of, arrives, answered_by, goes_on, stood_by};

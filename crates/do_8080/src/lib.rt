@@ -1,5 +1,6 @@
 // Every instruction of the 8080 mode, by groups.
 #![tactic(auto)]
+
 ghost use Rattle.std.specs.Prelude.{◌≡◌};
 ghost use Rattle.sheet.specs.Execute.{carding};
 ghost use Rattle.do_8080.specs.Lent.{CardsOn};

@@ -1,5 +1,6 @@
 // Arithmetic of the 8080 mode, and LDAX and STAX.
 #![tactic(auto)]
+
 ghost use Rattle.std.specs.Prelude.{false};
 ghost use Rattle.sheet.specs.Registers.{AL};
 ghost use Rattle.sheet.specs.declared.Spot.TheVariants.{InRegister};

@@ -1,5 +1,6 @@
 // Jumps, calls and returns of the 8080 mode. PC stands on the next instruction when these begin.
 #![tactic(auto)]
+
 ghost use Rattle.std.specs.Prelude.{◌*◌};
 ghost use Rattle.sheet.specs.CardBranch as tree;
 ghost use Rattle.mach_tally.specs.Lent.{Does};

@@ -1,5 +1,6 @@
 // The stack of the 8080 mode, at DS0:BP: PUSH, POP, XTHL.
 #![tactic(auto)]
+
 ghost use Rattle.std.specs.Prelude.{◌≡◌, ℕ};
 ghost use Rattle.sheet.specs.CardStack as tree;
 ghost use Rattle.mach_tally.specs.Lent.{Does, Takes};

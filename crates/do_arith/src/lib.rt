@@ -1,5 +1,6 @@
 // Addition, subtraction, comparison, logic, increment, decrement, complement.
 #![tactic(auto)]
+
 ghost use Rattle.std.specs.Prelude.{◌≡◌, ℕ};
 ghost use Rattle.sheet.specs.Arithmetic as tree;
 ghost use Rattle.sheet.specs.Arithmetic.{calculate};

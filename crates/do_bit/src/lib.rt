@@ -1,5 +1,6 @@
 // TEST1, CLR1, SET1, NOT1 on one bit of an operand.
 #![tactic(auto)]
+
 ghost use Rattle.sheet.specs.Operand.{deposit};
 ghost use Rattle.sheet.specs.Bits as tree;
 ghost use Rattle.mach_tally.specs.Lent.{Does};

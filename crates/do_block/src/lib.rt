@@ -1,5 +1,6 @@
 // The block primitives that use no port, single and repeated.
 #![tactic(auto)]
+
 ghost use Rattle.std.specs.Prelude.{◌≡◌, false};
 ghost use Rattle.sheet.specs.declared.Primitive.TheVariants as sheet;
 ghost use Rattle.sheet.specs.Act.{affect};

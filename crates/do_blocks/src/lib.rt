@@ -1,5 +1,6 @@
 // The block instructions, with and without ports.
 #![tactic(auto)]
+
 ghost use Rattle.std.specs.Prelude.{◌≡◌};
 ghost use Rattle.sheet.specs.Block as tree;
 ghost use Rattle.mach_ports.specs.Lent.{UsesPortsAndRam};

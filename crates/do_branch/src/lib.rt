@@ -1,5 +1,6 @@
 // CALL, RET, BR. PC stands on the next instruction when these begin.
 #![tactic(auto)]
+
 ghost use Rattle.sheet.specs.Branch as tree;
 ghost use Rattle.sheet.specs.Contract.{OnFile};
 ghost use Rattle.mach_tally.specs.Lent.{Does, Takes};

@@ -6,7 +6,6 @@ use mathlib.Core.List.{List}
 use lib.ListN.{get_or, set}
 use Rattle.sheet.specs.declared.Bus.{Bus}
 use Rattle.sheet.specs.declared.Address.{Address}
-use Rattle.sheet.specs.declared.Place.{Place}
 use Rattle.sheet.specs.declared.Place.TheVariants.{Register, Memory}
 use Rattle.sheet.specs.Registers.{PC, file_of, read_reg}
 use Rattle.sheet.specs.Handler.{◌⊕◌}

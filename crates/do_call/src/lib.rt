@@ -1,5 +1,6 @@
 // CALL. PC stands on the next instruction when it begins.
 #![tactic(auto)]
+
 ghost use Rattle.sheet.specs.declared.Place.TheVariants.{Register, Memory};
 ghost use Rattle.sheet.specs.Branch as tree;
 ghost use Rattle.mach_tally.specs.Lent.{Does};

@@ -1,5 +1,6 @@
 // The conditional branches and the loops. PC stands on the next instruction when these begin.
 #![tactic(auto)]
+
 ghost use Rattle.std.specs.Prelude.{Bool};
 ghost use Rattle.sheet.specs.Branch as tree;
 ghost use Rattle.sheet.specs.Contract.{OnFile};

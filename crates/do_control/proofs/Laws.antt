@@ -1,7 +1,7 @@
 -- What each arm of the code comes to, over plain values.
 use Prim.Native.Nat.{ℕ}
 use mathlib.Core.Path.{◌≡◌}
-use mathlib.Core.Bool.{Bool, true, false, not}
+use mathlib.Core.Bool.{Bool, true, not}
 use mathlib.Core.List.{List}
 use lib.ListN.{get_or, set}
 use Rattle.sheet.specs.declared.Control.{Control}

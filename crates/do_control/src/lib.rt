@@ -1,5 +1,6 @@
 // HALT, NOP, DI, EI, and CLR1, SET1, NOT1 of CY and DIR.
 #![tactic(auto)]
+
 ghost use Rattle.do_control.specs.Controls.{Controls};
 
 use mach_registers::PSW;

@@ -1,5 +1,6 @@
 // ADJ4A, ADJ4S, ADJBA, ADJBS, CVTBD, CVTDB, CVTBW, CVTWL.
 #![tactic(auto)]
+
 ghost use Rattle.sheet.specs.Adjust as adjust;
 ghost use Rattle.sheet.specs.Contract.{OnFile};
 ghost use Rattle.sheet.specs.Convert as sheet;

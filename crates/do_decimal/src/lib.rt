@@ -1,5 +1,6 @@
 // ADD4S, SUB4S, CMP4S, ROL4, ROR4.
 #![tactic(auto)]
+
 ghost use Rattle.std.specs.Prelude.{◌≡◌, ◌≤◌};
 ghost use Rattle.sheet.specs.Psw.{unknown, becomes, columns, column, keeps, settled};
 ghost use Rattle.sheet.specs.Decimal as sheet;

@@ -1,5 +1,6 @@
 // INS and EXT.
 #![tactic(auto)]
+
 ghost use Rattle.std.specs.Prelude.{◌≡◌, ℕ, ◌+◌, ◌%◌, ◌<◌, leb};
 ghost use Rattle.sheet.specs.Width.{pick, add16};
 ghost use Rattle.sheet.specs.Registers.{file_of};

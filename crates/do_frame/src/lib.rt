@@ -1,5 +1,6 @@
 // PREPARE and DISPOSE.
 #![tactic(auto)]
+
 ghost use Rattle.std.specs.Prelude.{◌≤◌};
 ghost use Rattle.sheet.specs.Act.{loop};
 ghost use Rattle.sheet.specs.Stack as tree;

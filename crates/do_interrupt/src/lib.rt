@@ -1,5 +1,6 @@
 // BRK, BRKV, CHKIND.
 #![tactic(auto)]
+
 ghost use Rattle.std.specs.Prelude.{◌≡◌, Bool};
 ghost use Rattle.std.specs.Int.Signed.{lt_z};
 ghost use Rattle.sheet.specs.Width.{signed_of};

@@ -9,7 +9,7 @@ use Rattle.sheet.specs.declared.Bus.{Bus}
 use Rattle.sheet.specs.declared.Marks.{Marks}
 use Rattle.sheet.specs.Psw.{flag_of, native_of, pack, restored, in_mode, to_native, to_cards, back, stored}
 use Rattle.sheet.specs.Registers.{PS, PC, PSW}
-use Rattle.sheet.specs.World.{state_of, mark_writable, crossed}
+use Rattle.sheet.specs.World.{mark_writable, crossed}
 use Rattle.sheet.specs.Act.{Act}
 use Rattle.sheet.specs.Handler.{◌⊕◌}
 use Rattle.sheet.specs.Traps.{pop, vectored}

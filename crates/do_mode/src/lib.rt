@@ -1,5 +1,6 @@
 // What may write MD: POP PSW, RETI, BRKEM; in the 8080 mode CALLN and RETEM.
 #![tactic(auto)]
+
 ghost use Rattle.std.specs.Prelude.{ℕ};
 ghost use Rattle.sheet.specs.Mode as tree;
 ghost use Rattle.mach_tally.specs.Lent.{Takes};

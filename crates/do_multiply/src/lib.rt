@@ -1,5 +1,6 @@
 // MULU, MUL, DIVU, DIV.
 #![tactic(auto)]
+
 ghost use Rattle.std.specs.Prelude.{◌≡◌, Bool};
 ghost use Rattle.sheet.specs.Registers.{file_of};
 ghost use Rattle.sheet.specs.Multiply as sheet;

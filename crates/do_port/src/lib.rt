@@ -1,5 +1,6 @@
 // IN and OUT.
 #![tactic(auto)]
+
 ghost use Rattle.std.specs.Prelude.{◌≡◌, ℕ};
 ghost use Rattle.sheet.specs.Ports as tree;
 ghost use Rattle.sheet.specs.declared.Io.TheVariants as io;

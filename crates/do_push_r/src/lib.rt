@@ -1,5 +1,6 @@
 // PUSH R and POP R: the eight general registers at once.
 #![tactic(auto)]
+
 ghost use Rattle.std.specs.Prelude.{ℕ};
 ghost use Rattle.sheet.specs.Stack as tree;
 ghost use Rattle.mach_tally.specs.Lent.{Does, Takes};

@@ -1,5 +1,6 @@
 // Shifts and rotates of an operand.
 #![tactic(auto)]
+
 ghost use Rattle.sheet.specs.declared.Places.TheVariants.{One, Counted};
 ghost use Rattle.sheet.specs.Shift as tree;
 ghost use Rattle.mach_tally.specs.Lent.{Does};

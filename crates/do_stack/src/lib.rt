@@ -1,5 +1,6 @@
 // PUSH, POP, PREPARE, DISPOSE.
 #![tactic(auto)]
+
 ghost use Rattle.sheet.specs.declared.Place.TheVariants.{Memory};
 ghost use Rattle.sheet.specs.Traps.{push_psw};
 ghost use Rattle.sheet.specs.Stack as tree;

@@ -1,5 +1,6 @@
 // INM and OUTM, single and repeated.
 #![tactic(auto)]
+
 ghost use Rattle.std.specs.Prelude.{◌≡◌};
 ghost use Rattle.sheet.specs.declared.Primitive.TheVariants as primitives;
 ghost use Rattle.sheet.specs.Block as tree;

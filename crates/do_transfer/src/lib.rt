@@ -1,5 +1,6 @@
 // MOV, LDEA, TRANS, XCH.
 #![tactic(auto)]
+
 ghost use Rattle.std.specs.Prelude.{◌≡◌};
 ghost use Rattle.sheet.specs.Transfer as tree;
 ghost use Rattle.mach_tally.specs.Lent.{Does};

@@ -16,7 +16,7 @@ use Rattle.sheet.specs.Psw.{native_of}
 use Rattle.sheet.specs.Registers.{PS, PC, PSW}
 use Rattle.sheet.specs.World.{World, world, state_of, psw_of}
 use Rattle.sheet.specs.Handler.{Outcome, run, kept, run_by, nothing}
-use Rattle.sheet.specs.Reading.{Reading, known}
+use Rattle.sheet.specs.Reading.{Reading}
 use Rattle.sheet.specs.FirstByte.{instruction}
 use Rattle.sheet.specs.CardCodes.{card_instruction}
 use Rattle.sheet.specs.Contract.{Refuses, stops, exec, seen, report, report_of}

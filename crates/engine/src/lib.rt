@@ -1,5 +1,6 @@
 // The public calls step and run, and what both are once the checks that every call makes are passed.
 #![tactic(auto)]
+
 pub mod execute;
 pub mod one;
 mod plain;

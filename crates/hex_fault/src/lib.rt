@@ -1,5 +1,6 @@
 // What is wrong with a line of Intel HEX, and how it is passed.
 #![tactic(auto)]
+
 ghost use Rattle.std.specs.Prelude.{◌≡◌, ◌≤◌};
 ghost use Rattle.hex_form.specs.Line.{all};
 ghost use Rattle.hex_form.specs.Reading.{place, inside, lands_in, lands, fault, segment_after, Passes};

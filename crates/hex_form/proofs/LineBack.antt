@@ -1,21 +1,21 @@
 -- A line that was written, and read again. Assumes nothing.
 use Prim.Native.Nat.{ℕ, zero, suc, ◌+◌, ◌-◌, ◌*◌, ◌/◌, ◌%◌, ◌≤◌, ◌<◌, zero-le}
 use mathlib.Core.Path.{◌≡◌, refl, sym, ap, ◌∙◌}
-use mathlib.Core.Bool.{Bool, true, false, ◌&&◌}
+use mathlib.Core.Bool.{true}
 use mathlib.Core.List.{List, [], ◌∷◌, ◌++◌, append_assoc}
 use native.Mathlib.Nat.{not-suc-le-zero, le_of_suc-le-suc}
 use native.Mathlib.Numerals.{add-one}
 use native.Mathlib.Omega.{arith}
 use lib.ListN.{length, get_or, drop, length-append, get_or-append}
-use lib.Seq.{get_or_at, drop_at}
-use lib.Dec.{ltb, eqb, lit≤}
+use lib.Seq.{get_or_at}
+use lib.Dec.{lit≤}
 use borrow.Author.Tests.{lt-ltb, eq-eqb}
 use Rattle.base_laws.proofs.Bytes.{Bytes}
 use Rattle.base_laws.proofs.Table.{agree}
 use Rattle.base_text.specs.Text.{hex, hex_digit}
-use Rattle.hex_form.specs.Line.{all, sum, digit, digit_at, byte, size, offset, kind, ending, width, span, taken, written, formed, summed}
+use Rattle.hex_form.specs.Line.{all, sum, digit, digit_at, byte, size, offset, kind, ending, width, span, written, summed}
 use Rattle.hex_form.specs.Writing.{pairs, at, checksum, line_text, line_bytes}
-use Rattle.hex_form.proofs.Texts.{pairs_long, record_long}
+use Rattle.hex_form.proofs.Texts.{pairs_long}
 
 -- ---- digits
 

@@ -13,7 +13,7 @@ use lib.Dec.{leb, ltb, eqb}
 use borrow.Author.Tests.{leb-true, ne_eqb}
 use Rattle.sheet.specs.Width.{pick}
 use Rattle.base_laws.specs.Writes.{Writes}
-use Rattle.hex_form.specs.Reading.{inside, Verdict, verdict, Store, store, stores_of, stored, applied, Reads}
+use Rattle.hex_form.specs.Reading.{inside, verdict, Store, store, stores_of, stored, applied, Reads}
 use Rattle.hex_form.specs.Writing.{hex_text, WritesHex}
 use Rattle.hex_form.proofs.Stores.{applied_append}
 

@@ -1,18 +1,18 @@
 -- Two lines of data under one segment may change places. Assumes nothing.
-use Prim.Native.Nat.{ℕ, zero, suc, ◌+◌, ◌-◌, ◌*◌, ◌%◌, ◌≤◌, ◌<◌}
-use mathlib.Core.Path.{◌≡◌, refl, sym, ap, ◌∙◌}
+use Prim.Native.Nat.{ℕ, zero, suc, ◌+◌, ◌-◌, ◌*◌, ◌<◌}
+use mathlib.Core.Path.{◌≡◌, refl, sym, ◌∙◌}
 use mathlib.Core.Bool.{Bool, true, false, ◌&&◌, and-eq-true_iff}
 use mathlib.Core.List.{List, [], ◌∷◌, ◌++◌, append_assoc}
 use native.Mathlib.Nat.{not-suc-le-zero}
 use native.Mathlib.Omega.{arith}
 use lib.ListN.{length, get_or, drop, length-append, get_or-append}
 use lib.Seq.{drop_at}
-use lib.Dec.{eqb, ltb, leb}
+use lib.Dec.{eqb, ltb}
 use borrow.Author.Tests.{eqb-false, ltb-true}
 use Rattle.sheet.specs.Width.{pick}
-use Rattle.hex_form.specs.Line.{all, sum, digit, digit_at, byte, size, offset, kind, ending, width, span, taken, written, formed, summed}
-use Rattle.hex_form.specs.Reading.{place, inside, lands_in, lands, fault, segment_after, Verdict, verdict, verdict_from, Store, store, store_at, first_stores, line_stores, stores_from, applied}
-use Rattle.hex_form.proofs.Walk.{span_some, good_formed, line_and_rest, line_and_stores}
+use Rattle.hex_form.specs.Line.{all, digit_at, byte, size, offset, kind, ending, width, span, taken, written, formed, summed}
+use Rattle.hex_form.specs.Reading.{place, lands_in, lands, fault, segment_after, verdict_from, Store, store_at, first_stores, line_stores, stores_from, applied}
+use Rattle.hex_form.proofs.Walk.{line_and_rest, line_and_stores}
 use Rattle.hex_form.proofs.Stores.{applied_append}
 use Rattle.hex_form.proofs.LineBack.{sum_alike}
 use Rattle.hex_form.proofs.Meaning.{Apart, any_order}

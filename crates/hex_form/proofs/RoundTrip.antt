@@ -1,23 +1,21 @@
 -- Reading what was written gives the image back. Assumes nothing.
 use Prim.Native.Nat.{ℕ, zero, suc, ◌+◌, ◌-◌, ◌*◌, ◌/◌, ◌%◌, ◌≤◌, ◌<◌, zero-le}
 use mathlib.Core.Path.{◌≡◌, refl, sym, ap, ◌∙◌}
-use mathlib.Core.Bool.{Bool, true, false, ◌&&◌}
+use mathlib.Core.Bool.{Bool, true, false}
 use mathlib.Core.List.{List, [], ◌∷◌, ◌++◌, append-nil, append_assoc}
 use native.Mathlib.Nat.{not-suc-le-zero}
-use native.Mathlib.Numerals.{add-one}
 use native.Mathlib.Omega.{arith}
 use lib.ListN.{length, get_or, take, drop, set, length-append, length-take, length-drop, take-append-drop}
 use lib.Seq.{take-suc, take-length, drop-cons, set_at, length-take-le}
-use lib.Dec.{leb, ltb, eqb, lit≤}
+use lib.Dec.{leb, lit≤}
 use borrow.Author.Tests.{le-leb, lt-ltb, eq-eqb, eqb-false, leb-true, leb-false}
-use Rattle.sheet.specs.Width.{pick}
 use Rattle.base_laws.proofs.Bytes.{Bytes, bytes_drop}
-use Rattle.hex_form.specs.Line.{all, byte, size, offset, kind, span, taken, written, formed, summed}
-use Rattle.hex_form.specs.Reading.{place, inside, lands_in, lands, fault, segment_after, Verdict, verdict, verdict_from, verdict_of, Store, store, store_at, first_stores, line_stores, stores_from, stores_of, stored, applied, Reads}
+use Rattle.hex_form.specs.Line.{all, kind, span, taken, formed}
+use Rattle.hex_form.specs.Reading.{place, inside, lands_in, lands, fault, segment_after, verdict, verdict_from, verdict_of, store, store_at, first_stores, line_stores, stores_from, stores_of, stored, applied, Reads}
 use Rattle.hex_form.specs.Writing.{line_text, line_bytes, data_text, segment_text, end_text, segment_for, turn_text, chunk_text, text_from, hex_text}
 use Rattle.hex_form.proofs.Walk.{span_some, span_there, end_line, end_stores, line_and_rest, line_and_stores}
-use Rattle.hex_form.proofs.Stores.{applied_append, same_length}
-use Rattle.hex_form.proofs.Texts.{record_long, segment_low, segment_fits, segment_kept, segment_new, no_turn, turn, text_ends}
+use Rattle.hex_form.proofs.Stores.{applied_append}
+use Rattle.hex_form.proofs.Texts.{record_long, segment_low, segment_fits, segment_kept, segment_new, no_turn, turn}
 use Rattle.hex_form.proofs.LineBack.{Back, line_back}
 
 all_true : (f : ℕ → Bool) (k : ℕ) → ((i : ℕ) → i < k → f i ≡ true) → all f k ≡ true

@@ -1,18 +1,18 @@
 -- The text that is written, and how long it is. Assumes nothing.
 use Prim.Native.Nat.{ℕ, zero, suc, ◌+◌, ◌-◌, ◌*◌, ◌/◌, ◌%◌, ◌≤◌, ◌<◌}
-use mathlib.Core.Path.{◌≡◌, refl, sym, ap, ◌∙◌}
+use mathlib.Core.Path.{◌≡◌, refl, ap, ◌∙◌}
 use mathlib.Core.Bool.{Bool, true, false}
 use mathlib.Core.List.{List, [], ◌∷◌, ◌++◌}
 use native.Mathlib.Nat.{not-suc-le-zero}
 use native.Mathlib.Numerals.{sub-one}
 use native.Mathlib.Omega.{arith}
-use lib.ListN.{length, take, drop, length-append, length-take}
+use lib.ListN.{length, take, drop, length-append}
 use lib.Dec.{leb}
-use borrow.Author.Tests.{le-leb, lt-leb, leb-true, leb-false}
+use borrow.Author.Tests.{le-leb, lt-leb, leb-true}
 use Rattle.sheet.specs.Width.{pick}
 use Rattle.base_text.specs.Text.{hex}
 use Rattle.base_text.proofs.Texts.{hex_length}
-use Rattle.hex_form.specs.Writing.{pairs, checksum, line_text, line_bytes, data_text, segment_text, end_text, segment_for, turn_text, chunk_text, text_from, hex_text}
+use Rattle.hex_form.specs.Writing.{pairs, checksum, line_text, line_bytes, data_text, segment_text, end_text, segment_for, turn_text, chunk_text, text_from}
 
 pub pairs_long : (l : List ℕ) → length (pairs l) ≡ 2 * length l
 unfolding pairs

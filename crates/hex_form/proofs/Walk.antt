@@ -1,17 +1,17 @@
 -- A text is read line by line: what a line does, and where the next one begins. Assumes nothing.
 use Prim.Native.Nat.{ℕ, zero, suc, ◌+◌, ◌-◌, ◌*◌, ◌≤◌, ◌<◌}
-use mathlib.Core.Path.{◌≡◌, refl, sym, ap, ◌∙◌}
-use mathlib.Core.Bool.{Bool, true, false, ◌&&◌, and-eq-true_iff, true≢false}
+use mathlib.Core.Path.{◌≡◌, refl, sym, ◌∙◌}
+use mathlib.Core.Bool.{Bool, true, false, ◌&&◌, and-eq-true_iff}
 use mathlib.Core.List.{List, [], ◌∷◌, ◌++◌}
 use native.Mathlib.Nat.{not-suc-le-zero}
-use native.Mathlib.Numerals.{add-one, sub-one}
+use native.Mathlib.Numerals.{sub-one}
 use native.Mathlib.Omega.{arith}
 use lib.ListN.{length, get_or, drop, get_or-eq_default}
-use lib.Dec.{eqb, leb, ltb}
-use borrow.Author.Tests.{eqb-true, eqb-false, eq-eqb, ne_eqb, ltb-true, ltb-false}
+use lib.Dec.{eqb, ltb}
+use borrow.Author.Tests.{eqb-true, eqb-false, ne_eqb, ltb-true, ltb-false}
 use Rattle.sheet.specs.Width.{pick}
-use Rattle.hex_form.specs.Line.{all, digit_at, byte, size, offset, kind, ending, width, span, taken, written, formed, summed}
-use Rattle.hex_form.specs.Reading.{lands, fault, segment_after, Verdict, verdict, number_of, verdict_from, Store, line_stores, stores_from}
+use Rattle.hex_form.specs.Line.{all, digit_at, size, offset, kind, ending, width, span, taken, written, formed, summed}
+use Rattle.hex_form.specs.Reading.{lands, fault, segment_after, verdict, verdict_from, line_stores, stores_from}
 
 -- ---- a line lies in its text
 

@@ -1,5 +1,5 @@
 -- One line of Intel HEX. A line is given by the text from its first character on; past the end of the text every character is 0.
-use Rattle.std.specs.Prelude.{ℕ, zero, suc, ◌+◌, ◌-◌, ◌*◌, ◌%◌, Bool, true, false, ◌&&◌, List, get_or, leb, ltb, eqb}
+use Rattle.std.specs.Prelude.{ℕ, zero, suc, ◌+◌, ◌-◌, ◌*◌, ◌%◌, Bool, true, ◌&&◌, List, get_or, ltb, eqb}
 use Rattle.sheet.specs.Width.{pick}
 
 -- whether f holds below k

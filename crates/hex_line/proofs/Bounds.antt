@@ -1,5 +1,5 @@
 -- How large the numbers of a line are. Assumes nothing.
-use Prim.Native.Nat.{ℕ, zero, suc, ◌+◌, ◌*◌, ◌-◌, ◌%◌, ◌≤◌, ◌<◌}
+use Prim.Native.Nat.{ℕ, zero, suc, ◌+◌, ◌≤◌, ◌<◌}
 use mathlib.Core.Path.{◌≡◌}
 use mathlib.Core.Bool.{Bool, true, false, ◌&&◌}
 use mathlib.Core.List.{List}
@@ -7,7 +7,7 @@ use native.Mathlib.Omega.{arith}
 use lib.ListN.{get_or}
 use lib.Dec.{eqb, lit≤}
 use Rattle.sheet.specs.Width.{pick}
-use Rattle.hex_form.specs.Line.{sum, byte, size, offset, kind, ending, width, span}
+use Rattle.hex_form.specs.Line.{sum, byte, size, offset, kind, ending, width}
 
 module _ (s : List ℕ) where
   pub byte_small : (i : ℕ) → byte s i ≤ 255

@@ -1,14 +1,13 @@
 -- What each function of a line returns, by the tests that it makes. Assumes nothing.
-use Prim.Native.Nat.{ℕ, zero, suc, ◌+◌, ◌*◌, ◌-◌, ◌%◌, ◌≤◌, ◌<◌}
+use Prim.Native.Nat.{ℕ, zero, suc, ◌+◌, ◌-◌, ◌%◌, ◌≤◌, ◌<◌}
 use mathlib.Core.Path.{◌≡◌, refl, sym}
-use mathlib.Core.Bool.{Bool, true, false, not, ◌&&◌}
+use mathlib.Core.Bool.{Bool, true, false, ◌&&◌}
 use mathlib.Core.List.{List}
 use native.Mathlib.Numerals.{add-one, sub-one}
 use lib.ListN.{get_or, length, get_or-eq_default}
-use lib.Dec.{ltb, leb, eqb}
-use borrow.Author.Tests.{lt-ltb, le-ltb, eq-eqb, ne_eqb}
-use Rattle.sheet.specs.Width.{pick}
-use Rattle.hex_form.specs.Line.{all, sum, digit, digit_at, byte, size, offset, kind, ending, width, span, taken, written, formed, summed}
+use lib.Dec.{ltb, eqb}
+use borrow.Author.Tests.{lt-ltb, le-ltb, ne_eqb}
+use Rattle.hex_form.specs.Line.{all, sum, digit, digit_at, ending, taken}
 
 pub past_the_end : (s : List ℕ) (i : ℕ) → length s ≤ i → 0 ≡ get_or s i 0
 past_the_end s i h = sym (get_or-eq_default s 0 h)

@@ -1,5 +1,6 @@
 // One line of Intel HEX, given by the text from its first character on.
 #![tactic(auto)]
+
 ghost use Rattle.std.specs.Prelude.{◌≡◌, ◌≤◌, get_or};
 ghost use Rattle.hex_form.specs.Line.{all, sum, digit, digit_at, byte, size, offset, kind};
 ghost use Rattle.hex_form.specs.Line.{ending, width, span, taken, formed, summed, written};

@@ -1,5 +1,6 @@
 // One line written as Intel HEX.
 #![tactic(auto)]
+
 ghost use Rattle.std.specs.Prelude.{◌≡◌, [], ◌∷◌, ◌+◌, ◌*◌, ◌/◌, ◌%◌, ◌≤◌, length};
 ghost use Rattle.base_laws.specs.Writes.{Writes};
 ghost use Rattle.base_line.specs.Adds.{AddsTo};

@@ -1,8 +1,7 @@
 -- The check of a text, line by line. Assumes nothing.
 use Prim.Native.Nat.{ℕ, ◌+◌, ◌-◌, ◌*◌, ◌≤◌, ◌<◌, zero-le}
 use mathlib.Core.Path.{◌≡◌, refl, sym, ap, ◌∙◌}
-use mathlib.Core.Bool.{true, false}
-use mathlib.Core.List.{List, []}
+use mathlib.Core.List.{List}
 use native.Mathlib.Omega.{arith}
 use lib.ListN.{length, take, drop, length-drop, drop_of_length-le}
 use lib.Seq.{drop-drop}
@@ -10,8 +9,8 @@ use lib.Dec.{eqb, lit≤}
 use borrow.Author.Tests.{eq-eqb, ne_eqb}
 use Rattle.sheet.specs.Width.{pick}
 use Rattle.base_laws.proofs.Parts.{rest}
-use Rattle.hex_form.specs.Line.{kind, span}
-use Rattle.hex_form.specs.Reading.{fault, segment_after, Verdict, verdict, verdict_from, verdict_of, Passes}
+use Rattle.hex_form.specs.Line.{span}
+use Rattle.hex_form.specs.Reading.{fault, verdict, verdict_from, verdict_of, Passes}
 use Rattle.hex_form.proofs.Walk.{span_some, span_there, good_formed, no_line, faulty_line, end_line, line_and_rest}
 use Rattle.hex_fault.proofs.Laws.{segment_small}
 

@@ -1,18 +1,17 @@
 -- The bytes of a text stored, line by line. Assumes nothing.
-use Prim.Native.Nat.{ℕ, zero, suc, ◌+◌, ◌-◌, ◌*◌, ◌≤◌, ◌<◌, zero-le}
+use Prim.Native.Nat.{ℕ, zero, suc, ◌+◌, ◌-◌, ◌≤◌, ◌<◌, zero-le}
 use mathlib.Core.Path.{◌≡◌, refl, sym, ap, ◌∙◌}
 use mathlib.Core.Bool.{Bool, true, false, ◌&&◌, and-eq-true_iff}
 use mathlib.Core.List.{List, [], ◌∷◌, ◌++◌}
 use native.Mathlib.Omega.{arith}
-use native.Mathlib.Numerals.{add-one, sub-one}
-use lib.ListN.{length, take, drop, set, length-drop, length-set, drop_of_length-le}
+use native.Mathlib.Numerals.{sub-one}
+use lib.ListN.{length, take, drop, set, length-drop, drop_of_length-le}
 use lib.Seq.{drop-drop}
 use lib.Dec.{eqb, leb, ltb}
 use borrow.Author.Tests.{leb-true, ltb-true, eqb-true, eqb-false, ne_eqb}
-use Rattle.sheet.specs.Width.{pick}
 use Rattle.base_laws.proofs.Parts.{rest}
 use Rattle.hex_form.specs.Line.{byte, size, kind, span}
-use Rattle.hex_form.specs.Reading.{place, inside, fault, segment_after, Verdict, verdict, number_of, verdict_from, verdict_of, Store, store, store_at, first_stores, line_stores, stores_from, stores_of, stored, applied, Passes, Reads}
+use Rattle.hex_form.specs.Reading.{place, inside, fault, verdict, number_of, verdict_from, verdict_of, Store, store, store_at, first_stores, line_stores, stores_from, stores_of, stored, applied, Passes, Reads}
 use Rattle.hex_form.proofs.Walk.{span_some, span_there, good_formed, faulty_line, line_and_rest, no_stores, end_stores, line_and_stores}
 use Rattle.hex_form.proofs.Stores.{applied_append, same_length}
 use Rattle.hex_fault.proofs.Laws.{segment_small}

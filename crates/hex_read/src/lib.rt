@@ -1,5 +1,6 @@
 // Intel HEX read into a lent image: all lines are checked first, then their bytes are stored.
 #![tactic(auto)]
+
 ghost use Rattle.std.specs.Prelude.{◌≡◌, ◌≤◌, length};
 ghost use Rattle.hex_form.specs.Reading.{verdict, number_of, verdict_of, store, stored, applied};
 ghost use Rattle.hex_form.specs.Reading.{first_stores, store_at, line_stores, stores_of, Reads};

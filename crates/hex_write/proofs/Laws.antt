@@ -1,14 +1,14 @@
 -- What the writer of lines puts down. Assumes nothing.
-use Prim.Native.Nat.{ℕ, zero, suc, ◌+◌, ◌-◌, ◌*◌, ◌/◌, ◌%◌, ◌≤◌, ◌<◌, zero-le}
-use mathlib.Core.Path.{◌≡◌, refl, sym, ap, ◌∙◌}
-use mathlib.Core.List.{List, [], ◌∷◌, ◌++◌}
+use Prim.Native.Nat.{ℕ, ◌+◌, ◌-◌, ◌*◌, ◌/◌, ◌%◌, ◌≤◌, ◌<◌}
+use mathlib.Core.Path.{◌≡◌, sym, ap, ◌∙◌}
+use mathlib.Core.List.{List, [], ◌∷◌}
 use native.Mathlib.Omega.{arith}
-use lib.ListN.{length, take, drop, length-append, length-take, length-drop}
+use lib.ListN.{length, take, drop, length-append}
 use borrow.Rule.Slice.PartMut.{put_mid}
 use Rattle.base_laws.specs.Writes.{Writes}
-use Rattle.base_laws.proofs.Writing.{none, same, room, more, front}
-use Rattle.hex_form.specs.Writing.{line_text, line_bytes, data_text, segment_text, end_text, segment_for, turn_text, chunk_text, text_from, hex_text, WritesHex}
-use Rattle.hex_form.proofs.Texts.{record_long, segment_low, segment_fits, segment_kept, segment_new, no_turn, turn, turn_long, chunk_long, text_ends, text_more}
+use Rattle.base_laws.proofs.Writing.{none, same, room, more}
+use Rattle.hex_form.specs.Writing.{line_text, line_bytes, data_text, segment_text, segment_for, turn_text, chunk_text}
+use Rattle.hex_form.proofs.Texts.{record_long, segment_low, segment_fits, segment_kept, segment_new, no_turn, turn, chunk_long}
 
 module _ (g a : ℕ) where
   pub kept : a + 16 ≤ 16 * g + 65536 → g ≡ segment_for g a

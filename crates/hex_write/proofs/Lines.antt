@@ -1,9 +1,9 @@
 -- The lines of an image, put down and measured. Assumes nothing.
-use Prim.Native.Nat.{ℕ, zero, suc, ◌+◌, ◌-◌, ◌*◌, ◌/◌, ◌%◌, ◌≤◌, ◌<◌, zero-le}
+use Prim.Native.Nat.{ℕ, ◌+◌, ◌-◌, ◌*◌, ◌/◌, ◌≤◌, ◌<◌, zero-le}
 use mathlib.Core.Path.{◌≡◌, refl, sym, ap, ◌∙◌}
 use mathlib.Core.Bool.{Bool, true, false}
-use mathlib.Core.Logic.{◌⊎◌, inl, inr}
-use mathlib.Core.List.{List, [], ◌∷◌, ◌++◌, append-nil, append_assoc}
+use mathlib.Core.Logic.{inl, inr}
+use mathlib.Core.List.{List, [], ◌++◌, append_assoc}
 use native.Mathlib.Omega.{arith}
 use lib.ListN.{length, take, drop, length-append, length-take, length-drop, drop_of_length-le}
 use lib.Seq.{drop-drop, take_all, length-take-le}
@@ -13,8 +13,8 @@ use borrow.Rule.Slice.PartMut.{put_mid}
 use Rattle.sheet.specs.Width.{pick}
 use Rattle.base_laws.specs.Writes.{Writes}
 use Rattle.base_laws.proofs.Writing.{none, same, room, more, front}
-use Rattle.hex_form.specs.Writing.{line_text, line_bytes, data_text, end_text, segment_for, turn_text, chunk_text, text_from, hex_text, Ends, WritesHex}
-use Rattle.hex_form.proofs.Texts.{record_long, segment_low, segment_fits, turn_long, chunk_long, text_ends, text_more}
+use Rattle.hex_form.specs.Writing.{line_text, line_bytes, end_text, segment_for, turn_text, chunk_text, text_from, hex_text, Ends, WritesHex}
+use Rattle.hex_form.proofs.Texts.{record_long, segment_low, turn_long, chunk_long, text_ends, text_more}
 
 segment_small : (g a : ℕ) → g ≤ 65535 → a ≤ 1048575 → segment_for g a ≤ 65535
 unfolding segment_for

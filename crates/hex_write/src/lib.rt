@@ -1,5 +1,6 @@
 // An image written as Intel HEX, 16 data bytes a line.
 #![tactic(auto)]
+
 ghost use Rattle.std.specs.Prelude.{◌≡◌, ◌++◌, ◌+◌, ◌*◌, ◌-◌, ◌≤◌, ◌<◌, length};
 ghost use Rattle.base_laws.specs.Writes.{Writes};
 ghost use Rattle.hex_form.specs.Writing.{segment_text, segment_for, turn_text, chunk_text, hex_text, Ends, WritesHex};

@@ -1,5 +1,6 @@
 // What the block primitives are made of: the elements due, the index registers, and how a repeat goes on.
 #![tactic(auto)]
+
 ghost use Rattle.std.specs.Prelude.{◌≡◌, Bool, ℕ};
 ghost use Rattle.sheet.specs.Registers as sheet;
 ghost use Rattle.sheet.specs.Block as tree;

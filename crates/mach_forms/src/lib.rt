@@ -1,5 +1,6 @@
 // The eight address forms as a table: base register, index register, default segment.
 #![tactic(auto)]
+
 ghost use Rattle.std.specs.Prelude.{◌≡◌};
 ghost use Rattle.sheet.specs.Operand.{form_at};
 

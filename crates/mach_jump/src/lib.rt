@@ -1,5 +1,6 @@
 // PC and PS set anew.
 #![tactic(auto)]
+
 ghost use Rattle.sheet.specs.Traps.{jump_far};
 ghost use Rattle.sheet.specs.Branch as tree;
 ghost use Rattle.sheet.specs.Contract.{OnFile};

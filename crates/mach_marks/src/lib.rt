@@ -1,5 +1,6 @@
 // The marks of a state, and which instructions set that of a segment load.
 #![tactic(auto)]
+
 ghost use Rattle.std.specs.Prelude.{true, false, ◌≡◌};
 ghost use Rattle.sheet.specs.World.{marks_of, mark_halted, mark_loaded, mark_writable};
 ghost use Rattle.sheet.specs.Transfer.{mov_in};

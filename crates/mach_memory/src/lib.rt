@@ -1,5 +1,6 @@
 // The address space in code: RAM from address 0, ROM up to FFFFFh, FFh elsewhere.
 #![tactic(auto)]
+
 ghost use Rattle.std.specs.Prelude.{◌≡◌, ◌<◌};
 ghost use Rattle.sheet.specs.Width.{mod_of};
 ghost use Rattle.sheet.specs.Memory.{physical, byte_at, read_mem};

@@ -1,5 +1,6 @@
 // Operands in code: where they stand, how they are read and written.
 #![tactic(auto)]
+
 ghost use Rattle.std.specs.Prelude.{◌≡◌, ℕ};
 ghost use Rattle.sheet.specs.Registers.{file_of};
 ghost use Rattle.sheet.specs.Operand.{index_of, form_at, form_offset, offset_of, base_of};

@@ -1,6 +1,5 @@
 -- An instruction that makes port accesses ends or refuses.
 use Prim.Native.Nat.{ℕ}
-use mathlib.Core.Bool.{Bool}
 use mathlib.Core.List.{List}
 use mathlib.Core.Path.{◌≡◌, refl}
 use Rattle.sheet.specs.declared.Bus.{Bus}

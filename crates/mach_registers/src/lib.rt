@@ -1,5 +1,6 @@
 // The register file in code: fourteen words, lent. PSW is the last of them and no register.
 #![tactic(auto)]
+
 ghost use Rattle.std.specs.Prelude.{◌≡◌, ℕ};
 ghost use Rattle.sheet.specs.Registers.{file_of, segment, read_reg};
 ghost use Rattle.sheet.specs.Act.{◌≔◌};

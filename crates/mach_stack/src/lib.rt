@@ -1,5 +1,6 @@
 // The stack and traps in code.
 #![tactic(auto)]
+
 ghost use Rattle.std.specs.Prelude.{◌≡◌, ℕ};
 ghost use Rattle.sheet.specs.Traps as tree;
 ghost use Rattle.mach_tally.specs.Lent.{Does, Takes};

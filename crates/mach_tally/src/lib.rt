@@ -1,5 +1,6 @@
 // What data accesses come to: the one crate that writes a Bus down.
 #![tactic(auto)]
+
 ghost use Rattle.std.specs.Prelude.{◌≡◌, ◌+◌, ◌≤◌};
 ghost use Rattle.sheet.specs.Memory.{bus_cycles};
 ghost use Rattle.mach_tally.specs.Sums.{Free, Costs, Joins, JoinsThree};

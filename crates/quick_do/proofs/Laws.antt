@@ -1,13 +1,13 @@
 -- What each return of the code comes to, over plain values.
-use Prim.Native.Nat.{ℕ, zero, suc, ◌+◌, ◌*◌, ◌/◌, ◌%◌, ◌≤◌, ◌<◌}
+use Prim.Native.Nat.{ℕ, zero, suc, ◌+◌, ◌%◌, ◌≤◌, ◌<◌}
 use mathlib.Core.Path.{◌≡◌, refl}
-use mathlib.Core.Bool.{Bool, true, false, not}
+use mathlib.Core.Bool.{Bool, true, false}
 use mathlib.Core.List.{List, [], ◌∷◌}
 use native.Mathlib.Omega.{arith}
 use lib.Bits.{bit_and}
 use lib.Dec.{eqb}
 use lib.ListN.{get_or, set}
-use borrow.Author.Tests.{ne_eqb, eq-eqb, lt-ltb, le-ltb}
+use borrow.Author.Tests.{ne_eqb, eq-eqb, lt-ltb}
 use Rattle.sheet.specs.declared.Address.TheVariants.{Formed, Direct}
 use Rattle.sheet.specs.declared.Index.TheVariants.{Of, Nothing}
 use Rattle.sheet.specs.declared.Flagged.{Flagged}
@@ -29,9 +29,9 @@ use Rattle.sheet.specs.Arithmetic.{Result, logical, unary, finish, operate, conc
 use Rattle.sheet.specs.Transfer.{mov}
 use Rattle.sheet.specs.Branch.{jump, branch_if, dbnz}
 use Rattle.sheet.specs.Contract.{OnFile, flagged}
-use Rattle.sheet.proofs.Lifted.{file_pure, file_seq, file_registers, file_set}
+use Rattle.sheet.proofs.Lifted.{file_pure, file_seq}
 use Rattle.calc_psw.proofs.Results.{file_affect, value_is}
-use Rattle.mach_registers.proofs.Laws.{file_reg, file_word}
+use Rattle.mach_registers.proofs.Laws.{file_reg}
 use Rattle.calc_arith.specs.Operate.{operated}
 use Rattle.calc_arith.proofs.OperateLaws.{operate_ends}
 use Rattle.do_conditional.proofs.Laws.{jumps, stays, counts, dbnz_is}

@@ -1,5 +1,6 @@
 // What readings do that need the registers alone, and the addresses of the others.
 #![tactic(auto)]
+
 ghost use Rattle.std.specs.Prelude.{◌≡◌, ◌≤◌, ◌<◌};
 ghost use Rattle.sheet.specs.declared.Place.TheVariants.{Register};
 ghost use Rattle.sheet.specs.declared.Source.TheVariants.{Held, Immediate};

@@ -1,10 +1,9 @@
 -- What each return of the code comes to, over plain values.
-use Prim.Native.Nat.{ℕ, zero, suc, ◌+◌, ◌*◌, ◌/◌, ◌%◌, ◌≤◌, ◌<◌}
-use mathlib.Core.Path.{◌≡◌, refl, sym, ap, ◌∙◌}
-use mathlib.Core.Bool.{Bool, true, false}
+use Prim.Native.Nat.{ℕ, ◌+◌, ◌≤◌, ◌<◌}
+use mathlib.Core.Path.{◌≡◌, refl}
+use mathlib.Core.Bool.{Bool, true}
 use mathlib.Core.List.{List}
-use native.Mathlib.Omega.{arith}
-use lib.Dec.{eqb, lit≤}
+use lib.Dec.{lit≤}
 use lib.ListN.{get_or, set}
 use borrow.Author.Tests.{ne_eqb, eq-eqb}
 use Rattle.sheet.specs.declared.Address.{Address}
@@ -17,17 +16,17 @@ use Rattle.sheet.specs.declared.Source.TheVariants.{Held, Immediate}
 use Rattle.sheet.specs.declared.Spot.{Spot}
 use Rattle.sheet.specs.declared.Spot.TheVariants.{InRegister, InMemory}
 use Rattle.sheet.specs.declared.Unary.{Unary}
-use Rattle.sheet.specs.Width.{pick, mod_of, add16, sub16}
+use Rattle.sheet.specs.Width.{mod_of, add16, sub16}
 use Rattle.sheet.specs.Psw.{CY, flag_of}
 use Rattle.sheet.specs.Registers.{SP, SS, PC, PSW, file_of, read_reg}
 use Rattle.sheet.specs.Memory.{read_mem}
-use Rattle.sheet.specs.Act.{Act, pure}
+use Rattle.sheet.specs.Act.{Act}
 use Rattle.sheet.specs.Handler.{◌⊕◌}
 use Rattle.sheet.specs.FirstByte.{operation_at}
 use Rattle.sheet.specs.Operand.{offset_of, base_of, locate, fetch, deposit, value_at, source_value, set_reg}
 use Rattle.sheet.specs.Arithmetic.{Result, unary, finish, operate, conclude, two, one}
 use Rattle.sheet.specs.Transfer.{mov, load_acc, store_acc}
-use Rattle.sheet.specs.Traps.{push, pop, pop_into}
+use Rattle.sheet.specs.Traps.{pop_into}
 use Rattle.sheet.specs.Stack.{push_register, pop_place}
 use Rattle.sheet.specs.Branch.{jump, push_pc, call_near, ret}
 use Rattle.sheet.specs.Contract.{OnFile, OnMemory, flagged}
@@ -36,8 +35,8 @@ use Rattle.calc_psw.proofs.Results.{file_affect, value_is}
 use Rattle.mach_registers.proofs.Laws.{file_reg}
 use Rattle.calc_arith.specs.Operate.{operated}
 use Rattle.calc_arith.proofs.OperateLaws.{operate_ends}
-use Rattle.mach_memory.specs.Accesses.{Writes, Loads, Stores}
-use Rattle.mach_memory.proofs.Laws.{loads, stores}
+use Rattle.mach_memory.specs.Accesses.{Loads, Stores}
+use Rattle.mach_memory.proofs.Laws.{loads}
 use Rattle.mach_stack.proofs.Laws.{push_is, pop_is}
 use Rattle.quick_place.specs.Packed.{op_of, unary_at, word_of, rm_of, reg_of, disp_of, imm_of, address_of}
 use Rattle.mach_tally.specs.Sums.{Free, Costs, Joins}

@@ -1,5 +1,6 @@
 // What readings do that touch memory.
 #![tactic(auto)]
+
 ghost use Rattle.sheet.specs.declared.Place.TheVariants.{Register, Memory};
 ghost use Rattle.sheet.specs.declared.Source.TheVariants.{Held, Immediate};
 ghost use Rattle.sheet.specs.declared.Spot.TheVariants.{InMemory};

@@ -1,6 +1,6 @@
 -- The instruction of each kind, from the fields of its reading.
 use Prim.Native.Nat.{ℕ, ◌%◌}
-use mathlib.Core.Path.{◌≡◌, refl}
+use mathlib.Core.Path.{◌≡◌}
 use mathlib.Core.Bool.{Bool}
 use Rattle.sheet.specs.declared.Instr.TheVariants.{Multiplies, Blocks, Ports}
 use Rattle.sheet.specs.declared.Place.TheVariants.{Register, Memory}

@@ -1,5 +1,6 @@
 // An instruction packed into one number.
 #![tactic(auto)]
+
 ghost use Rattle.std.specs.Prelude.{◌≡◌, ◌%◌};
 ghost use Rattle.sheet.specs.declared.Instr.TheVariants.{Computes, Moves, Multiplies, Blocks, Ports};
 ghost use Rattle.sheet.specs.declared.Arithmetic.TheVariants.{Two, One, Test};

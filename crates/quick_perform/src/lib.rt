@@ -1,5 +1,6 @@
 // A reading done, by its kind.
 #![tactic(auto)]
+
 mod general;
 mod rarer;
 

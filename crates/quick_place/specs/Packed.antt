@@ -1,5 +1,5 @@
 -- A window of code bytes as one number, and the fields of a reading as one number, an address and a place among them.
-use Rattle.std.specs.Prelude.{ℕ, zero, suc, ◌+◌, ◌*◌, ◌/◌, ◌%◌, ◌≤◌, ◌≡◌, Bool, [], ◌∷◌, eqb, get_or}
+use Rattle.std.specs.Prelude.{ℕ, zero, suc, ◌/◌, ◌%◌, ◌≤◌, ◌≡◌, Bool, [], ◌∷◌, eqb, get_or}
 use Rattle.sheet.specs.declared.Address.{Address}
 use Rattle.sheet.specs.declared.Address.TheVariants.{Formed, Direct}
 use Rattle.sheet.specs.declared.Convert.{Convert}

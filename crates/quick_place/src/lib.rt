@@ -1,5 +1,6 @@
 // A reading: the fields of an instruction, packed into one number.
 #![tactic(auto)]
+
 ghost use Rattle.std.specs.Prelude.{◌≡◌, ◌≤◌};
 ghost use Rattle.sheet.specs.Width.{pick};
 ghost use Rattle.quick_place.specs.Packed.{Joined, Located, Placed};

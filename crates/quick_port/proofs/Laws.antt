@@ -1,6 +1,6 @@
 -- What each return of the code comes to, over plain values.
-use Prim.Native.Nat.{ℕ, ◌+◌, ◌-◌, ◌*◌, ◌/◌, ◌%◌, ◌≤◌, ◌<◌}
-use mathlib.Core.Path.{◌≡◌, refl, sym, ◌∙◌}
+use Prim.Native.Nat.{ℕ, ◌+◌, ◌-◌, ◌≤◌, ◌<◌}
+use mathlib.Core.Path.{◌≡◌, refl}
 use mathlib.Core.Bool.{Bool, true, false}
 use mathlib.Core.List.{List}
 use native.Mathlib.Decide.{ℕ_discrete}
@@ -25,16 +25,15 @@ use Rattle.sheet.specs.Ports.{port_number, ports}
 use Rattle.sheet.specs.Contract.{OnFile}
 use Rattle.mach_tally.specs.Sums.{Costs}
 use Rattle.mach_tally.proofs.Bounds.{within_access}
-use Rattle.mach_ports.specs.Accesses.{Records, Gives, Takes, OnPorts}
+use Rattle.mach_ports.specs.Accesses.{Records, Takes}
 use Rattle.mach_ports.proofs.Laws.{place_fits, records_done, records_full, records_beyond, gives_done, gives_stop, takes_done, takes_stop, takes_few, takes_none}
 use Rattle.do_port.proofs.Laws.{port_in_dw, port_numbered, output_is, input_done, input_stop}
 use Rattle.quick_tally.specs.Packed.{bus_at}
 use Rattle.quick_tally.proofs.Laws.{fits_above}
-use Rattle.quick_place.specs.Packed.{rm_of, disp_of}
 use Rattle.quick_pack.specs.Readings.{port_at}
-use Rattle.quick_stand.specs.Stand.{Lent, Holds}
+use Rattle.quick_stand.specs.Stand.{Lent}
 use Rattle.quick_stand.proofs.Laws.{keeps}
-use Rattle.quick_port.specs.Reached.{counted_at, number_of, Stands, Lodges, Sends, Draws, Reaches}
+use Rattle.quick_port.specs.Reached.{counted_at, Lodges, Sends, Draws, Reaches}
 use Rattle.quick_port.proofs.Answers.{number_none, number_stop, number_done, stands_done, stands_stop, reaches_done, reaches_stop}
 
 -- ---- a record

@@ -1,22 +1,20 @@
 -- What each return of the code comes to, over plain values.
-use Prim.Native.Nat.{ℕ, zero, suc, ◌+◌, ◌-◌, ◌≤◌, ◌<◌}
-use mathlib.Core.Path.{◌≡◌, refl, sym, ◌∙◌}
+use Prim.Native.Nat.{ℕ, ◌+◌, ◌-◌, ◌≤◌, ◌<◌}
+use mathlib.Core.Path.{◌≡◌, refl, sym}
 use mathlib.Core.Bool.{Bool, true, false, ◌&&◌, true≢false}
-use mathlib.Core.List.{List, [], ◌∷◌}
+use mathlib.Core.List.{List}
 use native.Mathlib.Decide.{ℕ_discrete}
 use native.Mathlib.Omega.{arith}
 use lib.Dec.{leb, lit≤}
-use lib.ListN.{length, get_or, set}
-use borrow.Author.Tests.{eq-eqb, ne_eqb, leb-true, lt-leb}
+use lib.ListN.{get_or, set}
+use borrow.Author.Tests.{eq-eqb, ne_eqb, leb-true}
 use Rattle.sheet.specs.declared.Bus.{Bus}
-use Rattle.sheet.specs.declared.Instr.{Instr}
 use Rattle.sheet.specs.declared.Primitive.{Primitive}
 use Rattle.sheet.specs.declared.Primitive.TheVariants.{Inm, Outm}
 use Rattle.sheet.specs.declared.Repeat.TheVariants.{WhileZ}
 use Rattle.sheet.specs.declared.Io.TheVariants.{In, Out}
 use Rattle.sheet.specs.Registers.{CW, DW, IX, IY}
-use Rattle.sheet.specs.World.{marks_of}
-use Rattle.sheet.specs.Act.{Act, pure}
+use Rattle.sheet.specs.Act.{Act}
 use Rattle.sheet.specs.Handler.{nothing}
 use Rattle.sheet.specs.Block.{source_element, set_target, step_index, primitive, after_element, element, block}
 use Rattle.sheet.specs.Ports.{ports}
@@ -26,7 +24,6 @@ use Rattle.sheet.specs.Contract.{OnFile, OnMemory}
 use Rattle.mach_tally.specs.Sums.{Costs, Joins}
 use Rattle.mach_tally.specs.Bounds.{Within}
 use Rattle.mach_tally.proofs.Bounds.{within_access, within_memory, within_both}
-use Rattle.mach_ports.specs.Accesses.{OnPorts}
 use Rattle.mach_element.specs.declared.Due.TheVariants.{Nothing, Element}
 use Rattle.mach_element.specs.Due.{due_of, due_tree}
 use Rattle.mach_element.proofs.Laws.{due_none, due_one}
@@ -37,7 +34,7 @@ use Rattle.quick_place.specs.Packed.{kind_of, rm_of, op_of, seg_of, word_of, dis
 use Rattle.quick_pack.specs.Readings.{port_at, stream_at, at_port, port_readings, instr_of}
 use Rattle.quick_stand.specs.Stand.{Lent}
 use Rattle.quick_stand.proofs.Laws.{counted}
-use Rattle.quick_port.specs.Reached.{counted_at, number_of, cost_of, Stands, Sends, Draws, Reaches}
+use Rattle.quick_port.specs.Reached.{counted_at, number_of, cost_of, Sends, Draws, Reaches}
 use Rattle.quick_port.proofs.Answers.{number_none, number_stop, stands_done, reaches_done, reaches_stop, refuses}
 use Rattle.quick_port.specs.StreamTrees.{port_trees, port_tree}
 

@@ -1,5 +1,6 @@
 // Port accesses, IN and OUT, with the places lent as numbers: nothing of an answer goes through memory.
 #![tactic(auto)]
+
 pub mod stream;
 
 ghost use Rattle.std.specs.Prelude.{◌≡◌, ℕ, ◌+◌, ◌≤◌, get_or, length};

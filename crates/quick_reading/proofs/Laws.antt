@@ -1,10 +1,10 @@
 -- What each return of the code comes to, over plain values.
 use Prim.Native.Nat.{ℕ, zero, suc, ◌+◌, ◌*◌, ◌/◌, ◌%◌, ◌≤◌, ◌<◌}
-use mathlib.Core.Path.{◌≡◌, refl, sym, ◌∙◌}
+use mathlib.Core.Path.{◌≡◌, refl, ◌∙◌}
 use mathlib.Core.List.{List}
 use native.Mathlib.Decide.{ℕ_discrete}
 use native.Mathlib.Omega.{arith}
-use lib.ListN.{get_or, set, length, length-set}
+use lib.ListN.{get_or, set, length-set}
 use lib.Seq.{get_or-set_same, get_or-set_other}
 use Rattle.sheet.specs.declared.Instr.{Instr}
 use Rattle.sheet.specs.Memory.{byte_at}
@@ -16,8 +16,8 @@ use Rattle.code_answer.specs.declared.Decoded.{Decoded}
 use Rattle.code_answer.specs.declared.Decoded.TheVariants.{Known}
 use Rattle.code_answer.specs.Answer.{Decodes}
 use Rattle.code_answer.proofs.DecodesLaws.{known_reads}
-use Rattle.quick_place.specs.Packed.{byte_of, size_of}
-use Rattle.quick_pack.specs.Readings.{instr_of, Packs, none, packs}
+use Rattle.quick_place.specs.Packed.{byte_of}
+use Rattle.quick_pack.specs.Readings.{Packs, none, packs}
 use Rattle.quick_reading.specs.Readings.{bytes_of, Means, general, quick, Remembers}
 
 -- ---- a window decoded

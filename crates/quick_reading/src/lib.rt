@@ -1,5 +1,6 @@
 // Readings: the instruction of a window of code bytes as one number, and the memo of readings.
 #![tactic(auto)]
+
 ghost use Rattle.std.specs.Prelude.{◌≡◌, ◌/◌, ◌%◌, ◌<◌};
 ghost use Rattle.quick_reading.specs.Readings.{bytes_of, Means, Remembers};
 

@@ -1,21 +1,18 @@
 -- What each return of the code comes to, over plain values.
 use Prim.Native.Nat.{ℕ, zero, suc, ◌+◌, ◌-◌, ◌*◌, ◌≤◌, ◌<◌}
-use mathlib.Core.Path.{◌≡◌, refl, sym, ap, ◌∙◌}
-use mathlib.Core.Bool.{true, false}
+use mathlib.Core.Path.{◌≡◌, refl, ap, ◌∙◌}
 use mathlib.Core.List.{List}
 use native.Mathlib.Omega.{arith}
-use lib.Dec.{leb}
 use lib.ListN.{get_or, length, replicate}
 use borrow.Author.Tests.{le-leb, lt-leb}
 use Rattle.sheet.specs.declared.Bus.{Bus}
 use Rattle.sheet.specs.declared.Marks.{Marks}
 use Rattle.sheet.specs.declared.Progress.{Progress}
 use Rattle.sheet.specs.declared.State.{State}
-use Rattle.sheet.specs.World.{World, world, state_of}
+use Rattle.sheet.specs.World.{world, state_of}
 use Rattle.mach_tally.specs.Sums.{Free, Joins}
 use Rattle.mach_tally.specs.Bounds.{Within}
 use Rattle.step_answer.specs.Calls.{check_number}
-use Rattle.step_answer.specs.Steps.{Advances}
 use Rattle.step_answer.specs.Runs.{Runs}
 use Rattle.step_answer.proofs.RunLaws.{Continues, continues_none, continues_more, runs_stop, runs_end}
 use Rattle.quick_tally.specs.Packed.{bus_at}

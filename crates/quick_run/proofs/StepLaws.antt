@@ -1,11 +1,11 @@
 -- What each return of the code comes to, over plain values.
-use Prim.Native.Nat.{ℕ, zero, suc, ◌+◌, ◌-◌, ◌*◌, ◌/◌, ◌%◌, ◌≤◌, ◌<◌}
+use Prim.Native.Nat.{ℕ, zero, suc, ◌+◌, ◌-◌, ◌/◌, ◌%◌, ◌≤◌, ◌<◌}
 use mathlib.Core.Path.{◌≡◌, refl, sym, ap, ◌∙◌}
-use mathlib.Core.Bool.{Bool, true, false, not, ◌&&◌, ◌||◌, true≢false}
+use mathlib.Core.Bool.{Bool, true, false, not, ◌||◌, true≢false}
 use mathlib.Core.List.{List, [], ◌∷◌}
 use native.Mathlib.Omega.{arith}
-use lib.Dec.{eqb, leb, lit≤}
-use lib.ListN.{get_or, set, length}
+use lib.Dec.{lit≤}
+use lib.ListN.{get_or, set}
 use borrow.Author.Tests.{ne_eqb, le-leb, lt-leb}
 use Rattle.sheet.specs.declared.Bus.{Bus}
 use Rattle.sheet.specs.declared.Instr.{Instr}
@@ -14,12 +14,12 @@ use Rattle.sheet.specs.declared.Control.TheVariants.{Nop}
 use Rattle.sheet.specs.declared.Marks.{Marks}
 use Rattle.sheet.specs.declared.Progress.{Progress}
 use Rattle.sheet.specs.declared.State.{State}
-use Rattle.sheet.specs.Width.{pick, odd, add16}
+use Rattle.sheet.specs.Width.{add16}
 use Rattle.sheet.specs.Psw.{BRK, flag_of, native_of}
 use Rattle.sheet.specs.Registers.{PS, PC, PSW}
 use Rattle.sheet.specs.Log.{rule, risen}
-use Rattle.sheet.specs.World.{state_of, marks_of, mark_loaded}
-use Rattle.sheet.specs.Handler.{nothing, ◌⊕◌}
+use Rattle.sheet.specs.World.{state_of, marks_of}
+use Rattle.sheet.specs.Handler.{nothing}
 use Rattle.sheet.specs.Transfer.{mov_in}
 use Rattle.sheet.specs.Stack.{pop_in}
 use Rattle.sheet.specs.FirstByte.{instruction}
@@ -32,7 +32,6 @@ use Rattle.code_answer.specs.declared.Decoded.TheVariants.{Known}
 use Rattle.code_answer.specs.Answer.{Decodes}
 use Rattle.engine.specs.Performs.{Performs}
 use Rattle.step_end.specs.Finishes.{begun_at}
-use Rattle.engine.specs.Proceeds.{Proceeds}
 use Rattle.engine.proofs.ExecuteLaws.{ported_is}
 use Rattle.step_end.proofs.Laws.{finishes_untraced}
 use Rattle.engine.proofs.OneLaws.{launches_done, launches_stop, proceeds_done, proceeds_stop}

@@ -1,5 +1,6 @@
 // A run that reads an instruction once and uses the reading again.
 #![tactic(auto)]
+
 mod step;
 pub mod taken;
 

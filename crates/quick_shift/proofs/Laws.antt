@@ -1,5 +1,5 @@
 -- What each return of the code comes to, over plain values.
-use Prim.Native.Nat.{ℕ, zero, suc, ◌+◌, ◌/◌, ◌%◌, ◌≤◌, ◌<◌}
+use Prim.Native.Nat.{ℕ, zero, suc, ◌≤◌, ◌<◌}
 use mathlib.Core.Path.{◌≡◌, refl}
 use mathlib.Core.Bool.{Bool}
 use mathlib.Core.List.{List, [], ◌∷◌}
@@ -15,7 +15,7 @@ use Rattle.sheet.specs.Psw.{CY, flag_of}
 use Rattle.sheet.specs.Registers.{PSW, file_of, read_reg}
 use Rattle.sheet.specs.Memory.{read_mem}
 use Rattle.sheet.specs.Operand.{offset_of, base_of, locate, fetch, deposit, set_reg}
-use Rattle.sheet.specs.Arithmetic.{Result, finish}
+use Rattle.sheet.specs.Arithmetic.{finish}
 use Rattle.sheet.specs.Shift.{carry_in, shift_one, shift}
 use Rattle.sheet.specs.Contract.{OnFile, OnMemory, flagged}
 use Rattle.sheet.proofs.Lifted.{file_pure, file_seq, memory_seq, memory_free, memory_at_most}

@@ -1,5 +1,6 @@
 // What readings do that shift or rotate.
 #![tactic(auto)]
+
 ghost use Rattle.std.specs.Prelude.{◌≡◌};
 ghost use Rattle.sheet.specs.declared.Place.TheVariants.{Register, Memory};
 ghost use Rattle.sheet.specs.declared.Places.TheVariants.{One};

@@ -1,5 +1,6 @@
 // Where a run stands, as four numbers that are lent: no struct goes through memory at each step.
 #![tactic(auto)]
+
 ghost use Rattle.std.specs.Prelude.{◌≡◌, ◌≤◌, false};
 ghost use Rattle.sheet.specs.Width.{pick};
 ghost use Rattle.sheet.specs.World.{marks_of};

@@ -1,5 +1,6 @@
 // What accesses come to as one number, for the quicker run.
 #![tactic(auto)]
+
 ghost use Rattle.std.specs.Prelude.{◌≡◌, ◌+◌, ◌≤◌};
 ghost use Rattle.mach_tally.specs.Sums.{Free, Costs, Joins};
 ghost use Rattle.quick_tally.specs.Packed.{bus_at, Packs};

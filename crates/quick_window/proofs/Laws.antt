@@ -1,16 +1,16 @@
 -- What each return of the code comes to, over plain values; and a window's reading is the code's.
 use Prim.Native.Nat.{ℕ, zero, suc, ◌+◌, ◌-◌, ◌*◌, ◌/◌, ◌%◌, ◌≤◌, ◌<◌}
-use mathlib.Core.Path.{◌≡◌, refl, sym, ◌∙◌}
+use mathlib.Core.Path.{◌≡◌, sym, ◌∙◌}
 use mathlib.Core.List.{List}
 use native.Mathlib.Omega.{arith}
-use lib.ListN.{get_or, length}
+use lib.ListN.{length}
 use Rattle.sheet.specs.declared.Instr.{Instr}
-use Rattle.sheet.specs.Reading.{known, scan, length_of}
+use Rattle.sheet.specs.Reading.{scan, length_of}
 use Rattle.sheet.specs.FirstByte.{instruction}
 use Rattle.sheet.specs.Step.{code_at, code_byte}
 use Rattle.sheet.proofs.ReadingLaws.{scan_rests}
 use Rattle.code_answer.specs.declared.Decoded.TheVariants.{Known}
-use Rattle.code_answer.specs.Answer.{Decodes, answer_of}
+use Rattle.code_answer.specs.Answer.{Decodes}
 use Rattle.code_answer.proofs.DecodesLaws.{known_reads}
 use Rattle.quick_place.specs.Packed.{byte_of}
 use borrow.Author.Tests.{lt-ltb, le-ltb, le-leb}

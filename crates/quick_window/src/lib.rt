@@ -1,5 +1,6 @@
 // Eight code bytes as one number.
 #![tactic(auto)]
+
 ghost use Rattle.std.specs.Prelude.{◌≡◌, ◌+◌, ◌≤◌, length};
 ghost use Rattle.sheet.specs.Step.{code_byte};
 ghost use Rattle.quick_window.specs.Spelled.{Spells, listed};

@@ -1,5 +1,6 @@
 // The words of instructions that compute a result and take no trap.
 #![tactic(auto)]
+
 ghost use Rattle.std.specs.Prelude.{false};
 ghost use Rattle.base_line.specs.Adds.{AddsTo};
 ghost use Rattle.rom_mnemonic.specs.Mnemonics as words;

@@ -1,11 +1,10 @@
 -- The lines of an image, one after the other. Assumes nothing.
-use Prim.Native.Nat.{ℕ, zero, suc, ◌+◌, ◌-◌, ◌*◌, ◌≤◌, ◌<◌, zero-le}
+use Prim.Native.Nat.{ℕ, zero, suc, ◌+◌, ◌-◌, ◌*◌, ◌≤◌, ◌<◌}
 use mathlib.Core.Path.{◌≡◌, refl, sym, ap, ◌∙◌}
 use mathlib.Core.Bool.{Bool, true, false}
 use mathlib.Core.List.{List, [], ◌∷◌, ◌++◌}
-use native.Mathlib.Nat.{le_trans}
 use native.Mathlib.Omega.{arith}
-use lib.ListN.{length, get_or, take, drop, length-append, length-take, length-replicate}
+use lib.ListN.{length, get_or, take, length-append, length-take, length-replicate}
 use lib.Dec.{ltb, lit≤}
 use borrow.Author.Tests.{ltb-true, lt-ltb, le-ltb}
 use Rattle.sheet.specs.declared.Instr.{Instr}
@@ -16,7 +15,7 @@ use Rattle.base_text.proofs.Texts.{hex_length}
 use Rattle.rom_mnemonic.specs.Mnemonics.{instr_text}
 use Rattle.rom_mnemonic.proofs.Words.{words_short}
 use Rattle.rom_form.specs.Listing.{bytes_text, line, data_text, top, rest, read_at, whole, words_of, size_at, line_at, lines_from, listing}
-use Rattle.rom_form.proofs.RoundTrip.{Sized, size_at_lem}
+use Rattle.rom_form.proofs.RoundTrip.{size_at_lem}
 
 -- ---- a line is at most 80 bytes long
 

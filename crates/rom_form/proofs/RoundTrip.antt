@@ -19,7 +19,7 @@ use Rattle.base_laws.proofs.Bytes.{Bytes, bytes_drop}
 use Rattle.base_text.specs.Text.{hex, hex_digit}
 use Rattle.rom_mnemonic.specs.Mnemonics.{instr_text}
 use Rattle.rom_mnemonic.specs.Printed.{Printed, no_more, and_then_lem}
-use Rattle.rom_form.specs.Listing.{line, data_text, top, rest, read_at, whole, size_of, words_of, size_at, line_at, lines_from, listing}
+use Rattle.rom_form.specs.Listing.{data_text, top, rest, read_at, whole, size_of, words_of, size_at, line_at, lines_from, listing}
 use Rattle.rom_form.specs.Restored.{restored_from, restored}
 use Rattle.rom_form.proofs.LineRestored.{digit_printed, line_restored}
 

@@ -1,8 +1,8 @@
 -- Lines compared with a listing, line by line. Assumes nothing.
 use Prim.Native.Nat.{ℕ, ◌+◌, ◌-◌, ◌≤◌, ◌<◌, zero-le}
-use mathlib.Core.Path.{◌≡◌, refl, sym, ap, ◌∙◌}
+use mathlib.Core.Path.{◌≡◌, sym, ap, ◌∙◌}
 use mathlib.Core.Bool.{Bool, true, false, not, true≢false}
-use mathlib.Core.List.{List, [], ◌++◌, append-nil, append_assoc}
+use mathlib.Core.List.{List, ◌++◌, append-nil, append_assoc}
 use native.Mathlib.Omega.{arith}
 use lib.ListN.{length, take, drop, length-append, length-drop}
 use lib.Seq.{take_all, take-add, take_at, drop_at, length-take-le}
@@ -14,7 +14,7 @@ use Rattle.rom_list.proofs.LineText.{made}
 use Rattle.rom_form.specs.Listing.{top, line_at, size_at, lines_from, listing}
 use Rattle.rom_form.proofs.RoundTrip.{size_at_lem}
 use Rattle.rom_list.specs.Agrees.{Begins, Compares, Agrees}
-use Rattle.rom_form.proofs.Lines.{line_short, no_lines, line_and_rest, all_lines}
+use Rattle.rom_form.proofs.Lines.{no_lines, line_and_rest, all_lines}
 
 -- a line that was made, compared with what follows
 module _ {image line line' : List ℕ} {a r size : ℕ} (h : a < top) (n : length line ≡ 80) (m : Makes image a line r size line') where

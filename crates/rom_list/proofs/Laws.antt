@@ -1,6 +1,6 @@
 -- Lines that are measured and written one after the other.
 use Prim.Native.Nat.{ℕ, ◌+◌, ◌-◌, ◌*◌, ◌≤◌, ◌<◌}
-use mathlib.Core.Path.{◌≡◌, refl, sym, ap, ◌∙◌}
+use mathlib.Core.Path.{◌≡◌, sym, ap, ◌∙◌}
 use mathlib.Core.List.{List, [], ◌++◌, append_assoc, append-nil}
 use native.Mathlib.Omega.{arith}
 use native.Mathlib.Nat.{zero-add}
@@ -11,7 +11,6 @@ use Rattle.base_laws.proofs.Writing as writing
 use Rattle.rom_form.specs.Listing.{top, size_at, line_at, lines_from, listing}
 use Rattle.rom_form.proofs.RoundTrip.{Sized, size_at_lem}
 use Rattle.rom_form.proofs.Lines.{line_short, no_lines, line_and_rest, all_lines}
-use Rattle.base_line.specs.Adds.{Holds}
 use Rattle.rom_list.specs.Makes.{Makes}
 use Rattle.rom_list.proofs.LineText.{made}
 use Rattle.rom_list.specs.Lists.{Measures, Puts, Lists, listed, too_long, no_room}

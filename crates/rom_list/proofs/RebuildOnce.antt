@@ -1,6 +1,6 @@
 -- A rebuilding has one result only.
 use Prim.Native.Nat.{ℕ, ◌<◌}
-use mathlib.Core.Path.{◌≡◌, refl, sym, ◌∙◌}
+use mathlib.Core.Path.{◌≡◌, sym, ◌∙◌}
 use mathlib.Core.Logic.{◌⊎◌, inl, inr}
 use mathlib.Core.List.{List}
 use native.Mathlib.Nat.{lt_irrefl}
@@ -8,7 +8,7 @@ use native.Mathlib.Omega.{arith}
 use lib.ListN.{length}
 use Rattle.base_laws.specs.Writes.{Writes}
 use Rattle.rom_form.specs.Restored.{restored}
-use Rattle.rom_list.specs.Rebuilds.{Listed, Rebuilds}
+use Rattle.rom_list.specs.Rebuilds.{Rebuilds}
 
 module _ (lines out : List ℕ) where
   room_none : {A : Type 0} {len : ℕ} {o : List ℕ} → Writes (restored lines) out len o → length out < length (restored lines) → A

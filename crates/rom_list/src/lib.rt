@@ -1,5 +1,6 @@
 // The listing of a ROM: all its lines, one after the other.
 #![tactic(auto)]
+
 pub mod line;
 pub mod rebuild;
 

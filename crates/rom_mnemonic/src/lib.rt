@@ -1,5 +1,6 @@
 // An instruction in NEC's words: operands, and a mnemonic with its operands, as text in a line.
 #![tactic(auto)]
+
 ghost use Rattle.std.specs.Prelude.{◌≡◌, ◌<◌};
 ghost use Rattle.sheet.specs.Operand.{form_at};
 ghost use Rattle.base_line.specs.Adds.{AddsTo};

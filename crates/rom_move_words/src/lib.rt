@@ -1,5 +1,6 @@
 // The words of instructions that move data or PC and take no trap.
 #![tactic(auto)]
+
 ghost use Rattle.std.specs.Prelude.{◌≡◌, true, ◌<◌};
 ghost use Rattle.base_line.specs.Adds.{AddsTo};
 ghost use Rattle.base_text.specs.Text.{text};

@@ -10,7 +10,6 @@ use lib.Seq.{get_or-set_same, get_or-set_other, length-take-le}
 use lib.Dec.{leb, ltb, lit≤, lit<}
 use borrow.Author.Tests.{leb-true, ltb-true}
 use Rattle.sheet.specs.declared.State.{State}
-use Rattle.sheet.specs.declared.Progress.{Progress}
 use Rattle.sheet.specs.Width.{pick, bytes_of, wrap_of}
 use Rattle.sheet.specs.Psw.{Flag, Effect, Choice, native_of, fixed_of, flag_of, settled, in_mode, Crossing, to_native, to_cards, back, stored}
 use Rattle.sheet.specs.Registers.{PSW, file_of, written}

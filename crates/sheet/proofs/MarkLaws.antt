@@ -26,8 +26,8 @@ use Rattle.sheet.specs.Stack.{pop_segment, stack, pop_in}
 use Rattle.sheet.specs.Execute.{moving, operation, execute}
 use Rattle.sheet.specs.Handler.{Event, reads, asks, done, run_by}
 use Rattle.sheet.specs.Step.{fits, sound, marks_good, refusal, moves_in, loads_segment, interrupting, single_step, starting, stepping, step_by, interrupt_by}
-use Rattle.sheet.proofs.Lent.{Leaves, leaves, leaves_then, Kept, Good, good_kept, keeps_all, lent_refl, Sound}
-use Rattle.sheet.proofs.StepLaws.{Stepped, begins, Interrupted, enters, sound_is, starting_sound}
+use Rattle.sheet.proofs.Lent.{Leaves, leaves, leaves_then, Kept, Good, good_kept, keeps_all, lent_refl}
+use Rattle.sheet.proofs.StepLaws.{Stepped, begins, enters, sound_is, starting_sound}
 
 -- ---- no tree touches the mark of a segment load
 

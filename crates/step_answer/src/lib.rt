@@ -1,5 +1,6 @@
 // What the calls answer. What is promised of an answer stands in specs/, over the definition alone: theorems need it, and no code.
 #![tactic(auto)]
+
 use sheet::{Bus, Marks, Progress, State};
 
 // What a call answers: the number, the state and the bus.

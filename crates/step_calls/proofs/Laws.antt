@@ -17,7 +17,7 @@ use Rattle.sheet.specs.Log.{ceiling, rule}
 use Rattle.sheet.specs.World.{World, world, psw_of, mark_halted}
 use Rattle.sheet.specs.Handler.{Outcome, kept, run, run_by, nothing}
 use Rattle.sheet.specs.Traps.{trap}
-use Rattle.sheet.specs.Step.{psw_good, places_good, marks_good, fits, sound, checked, refusal, interrupting, interrupt_by, interrupt, interrupt_report}
+use Rattle.sheet.specs.Step.{psw_good, places_good, marks_good, fits, sound, refusal, interrupting, interrupt_by, interrupt, interrupt_report}
 use Rattle.sheet.specs.Contract.{seen, exec, OnMemory, report, report_of}
 use Rattle.sheet.proofs.Rules.{seq_last, ends_halted}
 use Rattle.mach_tally.specs.Sums.{Free}

@@ -1,5 +1,6 @@
 // What every public call checks first, and the calls that read no instruction: reset and interrupt.
 #![tactic(auto)]
+
 ghost use Rattle.std.specs.Prelude.{◌≡◌};
 ghost use Rattle.sheet.specs.World.{world};
 ghost use Rattle.sheet.specs.Step as definition;

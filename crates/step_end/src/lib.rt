@@ -1,5 +1,6 @@
 // What every step has, whatever its instruction: the count, and the single-step trap.
 #![tactic(auto)]
+
 ghost use Rattle.std.specs.Prelude.{◌≡◌, not, ◌&&◌};
 ghost use Rattle.sheet.specs.Log.{rule, risen};
 ghost use Rattle.sheet.specs.Psw.{BRK, flag_of};

@@ -5,7 +5,7 @@ use mathlib.Core.Path.{◌≡◌}
 use mathlib.Core.Bool.{Bool}
 use native.Mathlib.Omega.{arith}
 use lib.Dec.{lit≤}
-use Rattle.sheet.specs.Width.{bytes_of, wrap_of}
+use Rattle.sheet.specs.Width.{wrap_of}
 use Rattle.sheet.specs.Psw.{Choice, flag_of, settled}
 use Rattle.sheet.specs.Registers.{file_of, written}
 use Rattle.sheet.specs.Memory.{read_mem, write_mem, lost_bytes}

@@ -10,7 +10,7 @@ use Rattle.sheet.specs.declared.Instr.TheVariants.{Blocks}
 use Rattle.sheet.specs.World.{World}
 use Rattle.sheet.specs.Handler.{Event, Outcome, done, kept, nothing}
 use Rattle.sheet.specs.Contract.{seen, report, report_of}
-use Rattle.sheet.specs.Step.{loads_segment, step_by, step, interrupt_by, interrupt, interrupt_report}
+use Rattle.sheet.specs.Step.{loads_segment, step, interrupt, interrupt_report}
 use Rattle.sheet.proofs.StepLaws.{Stepped, begins, step_leaves}
 use Rattle.sheet.proofs.MarkLaws.{step_marks, step_unmixed, held_off}
 use Rattle.step_answer.proofs.RunLaws.{sound_so, fits_so}

@@ -1,14 +1,14 @@
 -- The log that steps leave is the log before them with the records of their port accesses, and is read back to those.
 use Prim.Native.Nat.{ℕ, zero, suc, ◌+◌, ◌≤◌, ◌<◌, min}
-use mathlib.Core.Path.{◌≡◌, refl, sym, ap, subst, ◌∙◌}
-use mathlib.Core.Bool.{Bool, true, false}
+use mathlib.Core.Path.{◌≡◌, refl, sym, subst, ◌∙◌}
+use mathlib.Core.Bool.{true, false}
 use mathlib.Core.List.{List, [], ◌∷◌, ◌++◌, append-nil, append_assoc}
 use native.Mathlib.Omega.{arith}
 use lib.ListN.{length, take, drop, length-append}
 use lib.Seq.{length-take-le}
 use Rattle.sheet.specs.Log.{ceiling, rule, risen, key_of, write_log}
 use Rattle.sheet.specs.World.{World}
-use Rattle.sheet.specs.Handler.{Event, reads, writes, takes, gives, asks, copies, changes, Outcome, refused, done, kept, run_by}
+use Rattle.sheet.specs.Handler.{Event, reads, writes, takes, gives, asks, copies, changes, Outcome, refused, done, kept}
 use Rattle.sheet.specs.Step.{step, starting, stepping}
 use Rattle.sheet.proofs.StepLaws.{begins}
 use Rattle.sheet.proofs.Replay.{Track, track_of, logged, effect, replay, Replays, replays, replays_all}
@@ -16,7 +16,7 @@ use Rattle.log_record.specs.Whole.{Row, AllSound, row_bytes, log_bytes, at_end, 
 use Rattle.log_record.proofs.Whole.{written_read}
 use Rattle.log_record.proofs.Growth.{log_grows}
 use Rattle.sheet.specs.Lendable.{lendable}
-use Rattle.theorems.specs.Rows.{Use, none, access, use_of, row_of, rows_of_use, since_use, rows_of, since, rows_along, since_along, steps_from, world_after}
+use Rattle.theorems.specs.Rows.{use_of, row_of, rows_of_use, since_use, rows_of, since, rows_along, since_along, steps_from, world_after}
 use Rattle.theorems.proofs.PortRow.{AtMostOne, no_row, one_row, step_row}
 
 -- ---- the used part of a log

@@ -1,7 +1,7 @@
 -- That the log's theorems are not empty: NOP, then OUT 60h,AL with AL 41h makes one record, of gap 2.
 use mathlib.Core.Path.{◌≡◌, refl}
 use mathlib.Core.Bool.{false}
-use mathlib.Core.List.{List, [], ◌∷◌}
+use mathlib.Core.List.{[], ◌∷◌}
 use Rattle.sheet.specs.World.{World, world}
 use Rattle.sheet.specs.Log.{groups_of, record_bytes, write_log}
 use Rattle.sheet.specs.Registers.{read_reg}

@@ -1,19 +1,15 @@
 -- Trees that use no port, and trees that use at most one, with numbers in their widths.
-use Prim.Native.Nat.{ℕ, suc, ◌+◌, ◌*◌, ◌≤◌}
-use mathlib.Core.Path.{◌≡◌, refl, sym, ◌∙◌}
-use mathlib.Core.Bool.{Bool, true, false}
+use Prim.Native.Nat.{ℕ, suc}
+use mathlib.Core.Path.{◌≡◌, refl, ◌∙◌}
+use mathlib.Core.Bool.{Bool}
 use mathlib.Core.List.{List, [], ◌∷◌}
-use native.Mathlib.Omega.{arith}
-use lib.ListN.{length, get_or}
-use lib.Dec.{leb, lit≤}
-use Rattle.sheet.specs.Width.{pick, bytes_of, wrap_of}
+use Rattle.sheet.specs.Width.{wrap_of}
 use Rattle.sheet.specs.Psw.{Flag, Effect, Choice, flag_of, settled, Crossing}
-use Rattle.sheet.specs.Registers.{PSW, File, file_of, written}
+use Rattle.sheet.specs.Registers.{File, file_of, written}
 use Rattle.sheet.specs.Memory.{read_mem, write_mem, lost_bytes}
-use Rattle.sheet.specs.Log.{rule, key_of, record_bytes}
 use Rattle.sheet.specs.World.{World, with_state, with_ram, psw_of, with_file, with_psw, with_halted, crossed}
 use Rattle.sheet.specs.Act.{Act, pure, get, put, ask, copy, flags, load, store, input, output, halt, cross, ◌>>=◌, refuse}
-use Rattle.sheet.specs.Handler.{Event, reads, writes, takes, gives, asks, copies, changes, Outcome, refused, done, then, Access, short, through, taped, recording, inputs, outputs, ported, run_by}
+use Rattle.sheet.specs.Handler.{Event, reads, writes, asks, copies, changes, Outcome, done, then, run_by}
 use Rattle.theorems.specs.Rows.{rows_of}
 
 -- ---- no port

@@ -1,6 +1,5 @@
 use native.Mathlib.Omega.{arith}
 use Rattle.base_at_once.proofs.Scaled.{above_least, above_most, down_is, down_lt}
-use borrow.Author.Rules.{rules}
 use Rattle.base_at_once.proofs.down.Goals as goal
 
 pub overflow_sub-above : goal.overflow_sub-above

@@ -1,7 +1,6 @@
 use native.Mathlib.Omega.{arith}
 use lib.Pow.{pow_mono}
 use Rattle.base_at_once.proofs.Round.{rest_lt, left_is, left_lt}
-use borrow.Author.Rules.{rules}
 use Rattle.base_at_once.proofs.left.Goals as goal
 
 pub overflow_sub-bits : goal.overflow_sub-bits

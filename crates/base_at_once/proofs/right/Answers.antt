@@ -1,7 +1,6 @@
 use mathlib.Core.Path.{sym, ◌∙◌}
 use native.Mathlib.Omega.{arith}
 use Rattle.base_at_once.proofs.Round.{rest_lt, right_is}
-use borrow.Author.Rules.{rules}
 use Rattle.base_at_once.proofs.right.Goals as goal
 
 pub overflow_sub-bits : goal.overflow_sub-bits

@@ -1,7 +1,6 @@
 use native.Mathlib.Omega.{arith}
 use lib.Pow.{pow_pos}
 use Rattle.base_at_once.proofs.Round.{power_is, turn_is, around_fits}
-use borrow.Author.Rules.{rules}
 use Rattle.base_at_once.proofs.turn.Goals as goal
 
 pub nonzero_rem-low : goal.nonzero_rem-low

@@ -1,5 +1,4 @@
 use Rattle.base_at_once.proofs.Scaled.{up_is}
-use borrow.Author.Rules.{rules}
 use Rattle.base_at_once.proofs.up.Goals as goal
 
 pub returns : goal.returns

@@ -2,7 +2,6 @@ use mathlib.Core.Path.{◌≡◌}
 use native.Mathlib.Omega.{arith}
 use Rattle.base_at_once.specs.AtOnce.{turns}
 use Rattle.base_at_once.proofs.Round.{whole_le, turns_more}
-use borrow.Author.Rules.{rules}
 use Rattle.base_at_once.proofs.whole_turns.Goals as goal
 
 pub returns-then-times-eq0 : goal.returns-then-times-eq0

@@ -1,8 +1,5 @@
-use Prim.Native.Nat.{ℕ, ◌-◌, ◌/◌, ◌%◌, ◌<◌}
 use native.Mathlib.Omega.{arith}
 use native.Mathlib.Nat.{pos_of_ne-zero}
-use borrow.Author.Rules.{rules}
-use Rattle.base_text.specs.Text.{hex_digit}
 use Rattle.base_text.proofs.Texts.{hex_none, hex_more}
 use Rattle.base_line.proofs.Laws.{nothing, then}
 use Rattle.base_line.proofs.+put_hex.Goals as goal

@@ -1,11 +1,4 @@
 -- `base_line::put_hex` meets its contract: the call puts all digits but the last, which is put behind them. The measure is w.
-use Prim.Native.Nat.{ℕ, ◌-◌, ◌/◌, ◌%◌, ◌<◌}
-use native.Mathlib.Omega.{arith}
-use native.Mathlib.Nat.{pos_of_ne-zero}
-use borrow.Author.Rules.{rules}
-use Rattle.base_text.specs.Text.{hex_digit}
-use Rattle.base_text.proofs.Texts.{hex_none, hex_more}
-use Rattle.base_line.proofs.Laws.{nothing, then}
 use Rattle.base_line.proofs.+put_hex.Given as goal
 
 abbrev pub decreases-put_hex : goal.decreases-put_hex

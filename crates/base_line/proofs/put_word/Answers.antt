@@ -1,10 +1,6 @@
-use Prim.Native.Nat.{suc, ◌-◌, ◌≤◌}
 use native.Mathlib.Numerals.{add-one}
 use native.Mathlib.Omega.{arith}
-use lib.ListN.{length, get_or, take}
 use lib.Seq.{take-suc, take_all}
-use borrow.Author.Rules.{rules}
-use Rattle.base_line.specs.Adds.{Adds}
 use Rattle.base_line.proofs.Laws.{nothing, then}
 use Rattle.base_line.proofs.put_word.Goals as goal
 

@@ -1,11 +1,6 @@
-use Prim.Native.Nat.{suc, ◌-◌, ◌≤◌}
-use native.Mathlib.Numerals.{add-one}
-use native.Mathlib.Omega.{arith}
-use lib.ListN.{length, get_or, take}
-use lib.Seq.{take-suc, take_all}
-use borrow.Author.Rules.{rules}
+use Prim.Native.Nat.{◌-◌, ◌≤◌}
+use lib.ListN.{length, take}
 use Rattle.base_line.specs.Adds.{Adds}
-use Rattle.base_line.proofs.Laws.{nothing, then}
 use Rattle.base_line.proofs.put_word.Given as goal
 
 -- `base_line::put_word` meets its contract. The loop's invariant: the first i bytes stand in the line.

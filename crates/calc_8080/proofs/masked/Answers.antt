@@ -2,7 +2,6 @@ use Rattle.sheet.specs.Contract.{flagged}
 use Rattle.sheet.specs.Arithmetic.{logical, resulting}
 use Rattle.sheet.specs.CardArithmetic.{masked, with_ac}
 use Rattle.sheet.specs.Psw.{settled}
-use borrow.Author.Rules.{rules}
 use Rattle.calc_8080.proofs.masked.Goals as goal
 
 pub returns : goal.returns

@@ -3,7 +3,6 @@ use Rattle.sheet.specs.Arithmetic.{difference, resulting}
 use Rattle.sheet.specs.Contract.{flagged}
 use Rattle.sheet.specs.Adjust.{plain}
 use Rattle.sheet.specs.Psw.{settled}
-use borrow.Author.Rules.{rules}
 use Rattle.calc_8080.proofs.subtract.Goals as goal
 
 pub returns : goal.returns

@@ -1,7 +1,6 @@
 use mathlib.Core.Path.{◌∙◌}
 use Rattle.sheet.specs.Psw.{settled}
 use Rattle.sheet.specs.Bits.{bit_column}
-use borrow.Author.Rules.{rules}
 use Rattle.calc_bits.proofs.after_test.Goals as goal
 
 pub returns : goal.returns

@@ -1,5 +1,4 @@
 use Rattle.sheet.specs.Bits.{bit_at}
-use borrow.Author.Rules.{rules}
 use Rattle.calc_bits.proofs.bit_at.Goals as goal
 
 pub returns : goal.returns

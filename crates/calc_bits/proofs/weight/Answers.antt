@@ -4,7 +4,6 @@ use native.Mathlib.Nat.{one-mul}
 use native.Mathlib.Omega.{arith}
 use lib.Dec.{lit<}
 use lib.Pow.{shl_exact, pow_pos, pow_mono}
-use borrow.Author.Rules.{rules}
 use Rattle.calc_bits.proofs.weight.Goals as goal
 
 pub returns : goal.returns

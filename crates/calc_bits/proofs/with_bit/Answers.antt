@@ -3,7 +3,6 @@ use Prim.Native.Nat.{◌*◌}
 use native.Mathlib.Nat.{mod-le, div-mul-le_self}
 use native.Mathlib.Omega.{arith}
 use Rattle.calc_bits.proofs.BitLaws.{number_15, set_parts, with_bit_lt}
-use borrow.Author.Rules.{rules}
 use Rattle.calc_bits.proofs.with_bit.Goals as goal
 
 pub overflow_mul-above : goal.overflow_mul-above

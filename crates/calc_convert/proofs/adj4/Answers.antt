@@ -2,7 +2,6 @@ use Rattle.sheet.specs.Psw.{settled}
 use Rattle.sheet.specs.Arithmetic.{resulting}
 use Rattle.sheet.specs.Contract.{flagged}
 use Rattle.sheet.specs.Adjust.{packed_result}
-use borrow.Author.Rules.{rules}
 use Rattle.calc_convert.proofs.adj4.Goals as goal
 
 -- `calc_convert::adj4` meets its contract.

@@ -1,7 +1,6 @@
 use Rattle.sheet.specs.Psw.{settled}
 use Rattle.sheet.specs.Contract.{flagged}
 use Rattle.sheet.specs.Adjust.{unpacked_result}
-use borrow.Author.Rules.{rules}
 use Rattle.calc_convert.proofs.adjb.Goals as goal
 
 -- `calc_convert::adjb` meets its contract.

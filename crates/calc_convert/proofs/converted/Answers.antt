@@ -2,7 +2,6 @@ use Rattle.sheet.specs.Psw.{settled}
 use Rattle.sheet.specs.Arithmetic.{resulting}
 use Rattle.sheet.specs.Contract.{flagged}
 use Rattle.sheet.specs.Convert.{converted}
-use borrow.Author.Rules.{rules}
 use Rattle.calc_convert.proofs.converted.Goals as goal
 
 -- `calc_convert::converted` meets its contract.

@@ -1,5 +1,4 @@
 use Rattle.sheet.specs.Adjust.{unpacked}
-use borrow.Author.Rules.{rules}
 use Rattle.calc_convert.proofs.unpacked.Goals as goal
 
 -- `calc_convert::unpacked` meets its contract.

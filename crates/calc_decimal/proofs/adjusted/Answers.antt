@@ -1,4 +1,3 @@
-use borrow.Author.Rules.{rules}
 use Rattle.sheet.specs.Adjust.{low_adjusted, high_adjusted, adjusted}
 use Rattle.calc_decimal.proofs.adjusted.Goals as goal
 

@@ -1,4 +1,3 @@
-use borrow.Author.Rules.{rules}
 use Rattle.sheet.specs.Decimal.{digits}
 use Rattle.calc_decimal.proofs.digits.Goals as goal
 

@@ -1,5 +1,4 @@
 use native.Mathlib.Omega.{arith}
-use borrow.Author.Rules.{rules}
 use Rattle.sheet.specs.Width.{wrap_of}
 use Rattle.sheet.specs.Adjust.{plain}
 use Rattle.calc_decimal.proofs.plain.Goals as goal

@@ -1,6 +1,5 @@
 use mir.Syntax.{w64}
 use mir.ValLaws.{to_z-of_z}
-use borrow.Author.Rules.{rules}
 use Rattle.sheet.specs.Multiply.{bits_of}
 use Rattle.calc_divide.proofs.bits.Goals as goal
 

@@ -4,7 +4,6 @@ use lib.Signed.{quot_z, rem_z}
 use mir.Syntax.{w64}
 use mir.Val.{to_z, of_z}
 use mir.ValLaws.{to_z-of_z}
-use borrow.Author.Rules.{rules}
 use Rattle.sheet.specs.Multiply.{quoted, stands}
 use Rattle.calc_signed.proofs.SignedLaws.{passes}
 use Rattle.calc_divide.proofs.QuotientReads.{quot_fits, rem_fits}

@@ -4,7 +4,6 @@ use native.Mathlib.Omega.{arith}
 use borrow.Author.Tests.{eq-eqb, ne_eqb}
 use mir.Syntax.{w64}
 use mir.Val.{to_z, of_z}
-use borrow.Author.Rules.{rules}
 use Rattle.sheet.specs.Width.{signed_of}
 use Rattle.sheet.specs.Multiply.{signed_quotient}
 use Rattle.calc_word.proofs.WidthLaws.{mod_half, wrap_lt}

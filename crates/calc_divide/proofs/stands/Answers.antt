@@ -1,7 +1,6 @@
 use mir.Syntax.{w64}
 use mir.ValLaws.{to_z-of_z}
 use native.Mathlib.Omega.{arith}
-use borrow.Author.Rules.{rules}
 use Rattle.sheet.specs.Multiply.{stands}
 use Rattle.calc_signed.proofs.SignedLaws.{reads_pos, minus_fits, minus_reads}
 use Rattle.calc_divide.proofs.stands.Goals as goal

@@ -5,7 +5,6 @@ use lib.Dec.{lit≤}
 use native.Mathlib.Nat.{mod-lt}
 use native.Mathlib.Omega.{arith}
 use borrow.Author.Tests.{eq-eqb, ne_eqb, lt-ltb, le-ltb}
-use borrow.Author.Rules.{rules}
 use Rattle.sheet.specs.Width.{mod_of}
 use Rattle.sheet.specs.Multiply.{unsigned_quotient}
 use Rattle.calc_divide.proofs.unsigned_quotient.Goals as goal

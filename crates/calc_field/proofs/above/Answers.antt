@@ -1,6 +1,5 @@
 use native.Mathlib.Nat.{div-le_self}
 use native.Mathlib.Omega.{arith}
-use borrow.Author.Rules.{rules}
 use Rattle.calc_field.proofs.above.Goals as goal
 
 -- `calc_field::above` meets its contract.

@@ -1,4 +1,3 @@
-use borrow.Author.Rules.{rules}
 use Rattle.calc_field.proofs.first.Goals as goal
 
 -- `calc_field::first` meets its contract.

@@ -1,6 +1,5 @@
 use Prim.Native.Nat.{◌<◌}
 use native.Mathlib.Omega.{arith}
-use borrow.Author.Rules.{rules}
 use Rattle.sheet.specs.Fields.{replaced}
 use Rattle.calc_field.proofs.FieldLaws.{word_stays}
 use Rattle.calc_field.proofs.put.Goals as goal

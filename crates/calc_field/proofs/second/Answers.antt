@@ -1,4 +1,3 @@
-use borrow.Author.Rules.{rules}
 use Rattle.calc_field.proofs.second.Goals as goal
 
 -- `calc_field::second` meets its contract.

@@ -1,6 +1,5 @@
 use native.Mathlib.Nat.{mod-lt}
 use native.Mathlib.Omega.{arith}
-use borrow.Author.Rules.{rules}
 use Prim.Native.Nat.{◌/◌}
 use Rattle.sheet.specs.Fields.{field_of}
 use Rattle.calc_field.proofs.taken.Goals as goal

@@ -1,4 +1,3 @@
-use borrow.Author.Rules.{rules}
 use Rattle.calc_flags.proofs.fixed.Goals as goal
 
 pub returns : goal.returns

@@ -1,10 +1,8 @@
 use mathlib.Core.Path.{◌≡◌, ◌∙◌}
-use Prim.Native.Nat.{◌*◌}
 use native.Mathlib.Omega.{arith}
 use lib.IntN.{◌*ℤ◌}
 use mir.Syntax.{w64}
 use mir.Val.{to_z, of_z}
-use borrow.Author.Rules.{rules}
 use Rattle.sheet.specs.Width.{signed_of}
 use Rattle.sheet.specs.Multiply.{signed_product}
 use Rattle.calc_signed.proofs.SignedLaws.{passes, signed_lt, signed_fits}

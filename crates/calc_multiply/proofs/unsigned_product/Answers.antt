@@ -1,7 +1,6 @@
 use native.Mathlib.Nat.{mul-le-mul}
 use native.Mathlib.Omega.{arith}
 use Prim.Native.Nat.{◌≤◌}
-use borrow.Author.Rules.{rules}
 use Rattle.sheet.specs.Multiply.{unsigned_product}
 use Rattle.calc_multiply.proofs.unsigned_product.Goals as goal
 

@@ -1,5 +1,4 @@
 use mathlib.Core.Path.{◌∙◌}
-use borrow.Author.Rules.{rules}
 use Rattle.sheet.specs.Psw.{settled}
 use Rattle.calc_psw.proofs.control.Goals as goal
 

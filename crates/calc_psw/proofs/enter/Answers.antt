@@ -1,6 +1,5 @@
 use mathlib.Core.Path.{ap, ◌∙◌}
 use mathlib.Core.Bool.{true}
-use borrow.Author.Rules.{rules}
 use Rattle.sheet.specs.Psw.{settled, in_mode}
 use Rattle.calc_psw.proofs.enter.Goals as goal
 

@@ -1,5 +1,4 @@
 use mathlib.Core.Path.{◌∙◌}
-use borrow.Author.Rules.{rules}
 use Rattle.sheet.specs.Psw.{in_mode}
 use Rattle.calc_psw.proofs.in_mode.Goals as goal
 

@@ -1,5 +1,4 @@
 use mathlib.Core.Path.{◌∙◌}
-use borrow.Author.Rules.{rules}
 use Rattle.calc_psw.proofs.restore.Goals as goal
 
 pub returns : goal.returns

@@ -1,4 +1,3 @@
-use borrow.Author.Rules.{rules}
 use Rattle.sheet.specs.Arithmetic.{resulting}
 use Rattle.sheet.specs.Contract.{flagged}
 use Rattle.calc_psw.proofs.result.Goals as goal

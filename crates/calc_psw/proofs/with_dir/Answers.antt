@@ -1,4 +1,3 @@
-use borrow.Author.Rules.{rules}
 use Rattle.sheet.specs.Psw.{settled}
 use Rattle.calc_psw.proofs.with_dir.Goals as goal
 

@@ -1,4 +1,3 @@
-use borrow.Author.Rules.{rules}
 use Rattle.sheet.specs.Shift.{rotated}
 use Rattle.sheet.specs.Contract.{flagged}
 use Rattle.sheet.specs.Psw.{settled}

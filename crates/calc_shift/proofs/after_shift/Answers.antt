@@ -1,5 +1,4 @@
 use mathlib.Core.Path.{◌∙◌}
-use borrow.Author.Rules.{rules}
 use Rattle.sheet.specs.Shift.{shifted}
 use Rattle.sheet.specs.Arithmetic.{resulting}
 use Rattle.sheet.specs.Contract.{flagged}

@@ -1,4 +1,3 @@
-use borrow.Author.Rules.{rules}
 use Rattle.calc_shift.proofs.carry_in.Goals as goal
 
 pub returns-in-Rolc : goal.returns-in-Rolc

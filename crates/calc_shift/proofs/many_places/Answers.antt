@@ -1,5 +1,4 @@
 use native.Mathlib.Omega.{arith}
-use borrow.Author.Rules.{rules}
 use Rattle.calc_shift.proofs.Counted.{none, all_places}
 use Rattle.calc_shift.proofs.many_places.Goals as goal
 

@@ -1,7 +1,6 @@
 use mathlib.Core.Path.{◌∙◌}
 use Rattle.sheet.specs.Shift.{shift_many}
 use Rattle.calc_shift.proofs.Kept.{kept_v}
-use borrow.Author.Rules.{rules}
 use Rattle.calc_shift.proofs.shift_many.Goals as goal
 
 pub returns : goal.returns

@@ -1,5 +1,4 @@
 use mathlib.Core.Path.{◌∙◌}
-use borrow.Author.Rules.{rules}
 use Rattle.sheet.specs.Shift.{shift_one}
 use Rattle.calc_shift.proofs.shift_one.Goals as goal
 

@@ -1,4 +1,3 @@
-use borrow.Author.Rules.{rules}
 use Rattle.sheet.specs.Shift.{sign_moves}
 use Rattle.calc_shift.proofs.sign_moves.Goals as goal
 

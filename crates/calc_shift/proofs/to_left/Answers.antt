@@ -1,4 +1,3 @@
-use borrow.Author.Rules.{rules}
 use Rattle.sheet.specs.Shift.{to_left}
 use Rattle.calc_shift.proofs.to_left.Goals as goal
 

@@ -1,4 +1,3 @@
-use borrow.Author.Rules.{rules}
 use Rattle.sheet.specs.Shift.{to_right}
 use Rattle.calc_shift.proofs.to_right.Goals as goal
 

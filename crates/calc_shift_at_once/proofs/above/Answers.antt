@@ -1,6 +1,5 @@
 use native.Mathlib.Omega.{arith}
 use Rattle.calc_shift_at_once.proofs.Joined.{mod_le}
-use borrow.Author.Rules.{rules}
 use Rattle.calc_shift_at_once.proofs.above.Goals as goal
 
 pub returns-then-set : goal.returns-then-set

@@ -2,7 +2,6 @@ use Prim.Native.Nat.{◌<◌}
 use native.Mathlib.Omega.{arith}
 use Rattle.base_at_once.proofs.Round.{rest_lt}
 use Rattle.calc_shift_at_once.proofs.Left.{half_pos, fit_is}
-use borrow.Author.Rules.{rules}
 use Rattle.calc_shift_at_once.proofs.fit.Goals as goal
 
 pub nonzero_rem-result : goal.nonzero_rem-result

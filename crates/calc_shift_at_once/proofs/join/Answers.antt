@@ -1,4 +1,3 @@
-use borrow.Author.Rules.{rules}
 use Rattle.calc_shift_at_once.proofs.join.Goals as goal
 
 pub returns : goal.returns

@@ -1,6 +1,5 @@
 use native.Mathlib.Omega.{arith}
 use Rattle.calc_shift_at_once.proofs.Joined.{mod_le, part_low, part_high}
-use borrow.Author.Rules.{rules}
 use Rattle.calc_shift_at_once.proofs.part.Goals as goal
 
 pub overflow_cast-result : goal.overflow_cast-result

@@ -2,7 +2,6 @@ use mathlib.Core.Path.{refl}
 use native.Mathlib.Omega.{arith}
 use Rattle.calc_shift_at_once.proofs.Joined.{mod_le}
 use Rattle.calc_shift_at_once.proofs.Left.{rol_room, width_power, rol_is}
-use borrow.Author.Rules.{rules}
 use Rattle.calc_shift_at_once.proofs.rol.Goals as goal
 
 pub left-y-requires : goal.left-y-requires

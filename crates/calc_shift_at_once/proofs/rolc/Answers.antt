@@ -1,7 +1,6 @@
 use native.Mathlib.Omega.{arith}
 use Rattle.calc_shift_at_once.proofs.Joined.{mod_le}
 use Rattle.calc_shift_at_once.proofs.Left.{rolc_room, round_power, rolc_is}
-use borrow.Author.Rules.{rules}
 use Rattle.calc_shift_at_once.proofs.rolc.Goals as goal
 
 pub left-requires : goal.left-requires

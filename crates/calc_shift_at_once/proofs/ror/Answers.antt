@@ -1,7 +1,6 @@
 use mathlib.Core.Path.{refl}
 use native.Mathlib.Omega.{arith}
 use Rattle.calc_shift_at_once.proofs.Right.{ror_room, ror_cast, ror_is}
-use borrow.Author.Rules.{rules}
 use Rattle.calc_shift_at_once.proofs.ror.Goals as goal
 
 pub right-y-requires : goal.right-y-requires

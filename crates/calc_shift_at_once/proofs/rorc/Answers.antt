@@ -1,6 +1,5 @@
 use native.Mathlib.Omega.{arith}
 use Rattle.calc_shift_at_once.proofs.Right.{rorc_room, rorc_cast, rorc_is}
-use borrow.Author.Rules.{rules}
 use Rattle.calc_shift_at_once.proofs.rorc.Goals as goal
 
 pub right-requires : goal.right-requires

@@ -1,5 +1,4 @@
 use Rattle.calc_shift_at_once.proofs.Left.{shl_is}
-use borrow.Author.Rules.{rules}
 use Rattle.calc_shift_at_once.proofs.shl.Goals as goal
 
 pub returns : goal.returns

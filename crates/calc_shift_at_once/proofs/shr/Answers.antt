@@ -1,5 +1,4 @@
 use Rattle.calc_shift_at_once.proofs.Right.{shr_last}
-use borrow.Author.Rules.{rules}
 use Rattle.calc_shift_at_once.proofs.shr.Goals as goal
 
 pub returns : goal.returns

@@ -5,7 +5,6 @@ use lib.Signed.{mag}
 use mir.Syntax.{w64}
 use mir.Val.{to_z, of_z}
 use mir.ValLaws.{to_z-of_z}
-use borrow.Author.Rules.{rules}
 use Rattle.sheet.specs.Width.{bits32}
 use Rattle.calc_signed.proofs.SignedLaws.{reads_pos, turned, bits_below, not_below}
 use Rattle.calc_signed.proofs.low_bits.Goals as goal

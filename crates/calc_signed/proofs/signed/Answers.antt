@@ -4,7 +4,6 @@ use mir.Syntax.{w64}
 use mir.ValLaws.{to_z-of_z}
 use borrow.Author.Tests.{lt-ltb, le-ltb}
 use native.Mathlib.Omega.{arith}
-use borrow.Author.Rules.{rules}
 use Rattle.sheet.specs.Width.{signed_of}
 use Rattle.calc_signed.proofs.SignedLaws.{reads_pos, diff_fits}
 use Rattle.calc_signed.proofs.signed.Goals as goal

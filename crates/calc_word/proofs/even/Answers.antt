@@ -1,4 +1,3 @@
-use Rattle.std.proofs.Common.{rules}
 use Rattle.sheet.specs.Width.{even_of}
 use Rattle.calc_word.proofs.even.Goals as goal
 

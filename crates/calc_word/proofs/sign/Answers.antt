@@ -1,4 +1,3 @@
-use Rattle.std.proofs.Common.{rules}
 use Rattle.sheet.specs.Width.{sign_of}
 use Rattle.calc_word.proofs.sign.Goals as goal
 

@@ -1,4 +1,4 @@
-use Rattle.std.proofs.Common.{rules, le-leb}
+use Rattle.std.proofs.Common.{le-leb}
 use borrow.Author.Tests.{lt-leb}
 use Rattle.sheet.specs.Width.{sign_of, extend}
 use Rattle.calc_word.proofs.sign_extend.Goals as goal

@@ -1,5 +1,4 @@
 use Rattle.case_bytes.specs.Numbers.{double_at}
-use borrow.Author.Rules.{rules}
 use Rattle.case_bytes.proofs.double_at.Goals as goal
 
 pub returns : goal.returns

@@ -1,8 +1,6 @@
 use Prim.Native.Nat.{◌≤◌, ◌-◌}
-use mathlib.Core.Path.{◌≡◌, refl}
-use native.Mathlib.Omega.{arith}
+use mathlib.Core.Path.{◌≡◌}
 use Rattle.case_bytes.specs.Buffers.{kinds_of}
-use Rattle.case_bytes.proofs.Laws.{kinds_more}
 use Rattle.case_bytes.proofs.kinds.Given as goal
 
 -- `case_bytes::kinds` meets its contract: so many kinds were looked at.

@@ -1,9 +1,7 @@
 use Prim.Native.Nat.{◌≤◌, ◌-◌}
-use mathlib.Core.Path.{◌≡◌, refl, ap, ◌∙◌}
-use native.Mathlib.Omega.{arith}
+use mathlib.Core.Path.{◌≡◌}
 use lib.ListN.{length}
 use Rattle.case_bytes.specs.Buffers.{patched}
-use Rattle.case_bytes.proofs.Laws.{patched_length, patched_more}
 use Rattle.case_bytes.proofs.patch_all.Given as goal
 
 -- `case_bytes::patch_all` meets its contract: i patches are made.

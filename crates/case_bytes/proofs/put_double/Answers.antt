@@ -1,5 +1,4 @@
 use Rattle.case_bytes.specs.Numbers.{double_put}
-use borrow.Author.Rules.{rules}
 use Rattle.case_bytes.proofs.put_double.Goals as goal
 
 pub returns : goal.returns

@@ -1,7 +1,6 @@
 use native.Mathlib.Omega.{arith}
 use lib.ListN.{length-set}
 use Rattle.case_bytes.specs.Numbers.{word_put}
-use borrow.Author.Rules.{rules}
 use Rattle.case_bytes.proofs.put_word.Goals as goal
 
 pub bounds-bytes-at-2 : goal.bounds-bytes-at-2

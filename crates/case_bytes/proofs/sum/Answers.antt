@@ -1,9 +1,5 @@
-use Prim.Native.Nat.{◌≤◌, ◌-◌}
-use mathlib.Core.Path.{◌≡◌, refl}
+use mathlib.Core.Path.{refl}
 use native.Mathlib.Omega.{arith}
-use lib.ListN.{length, drop}
-use borrow.Author.Rules.{rules}
-use Rattle.case_bytes.specs.Buffers.{sum_of}
 use Rattle.case_bytes.proofs.Laws.{summed, all_summed}
 use Rattle.case_bytes.proofs.sum.Goals as goal
 

@@ -1,10 +1,7 @@
 use Prim.Native.Nat.{◌≤◌, ◌-◌}
-use mathlib.Core.Path.{◌≡◌, refl}
-use native.Mathlib.Omega.{arith}
+use mathlib.Core.Path.{◌≡◌}
 use lib.ListN.{length, drop}
-use borrow.Author.Rules.{rules}
 use Rattle.case_bytes.specs.Buffers.{sum_of}
-use Rattle.case_bytes.proofs.Laws.{summed, all_summed}
 use Rattle.case_bytes.proofs.sum.Given as goal
 
 -- `case_bytes::sum` meets its contract: the sum so far goes on over the rest.

@@ -1,5 +1,4 @@
 use Rattle.case_bytes.specs.Numbers.{word_of}
-use borrow.Author.Rules.{rules}
 use Rattle.case_bytes.proofs.word.Goals as goal
 
 pub returns : goal.returns

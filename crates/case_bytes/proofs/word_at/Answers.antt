@@ -1,5 +1,4 @@
 use Rattle.case_bytes.specs.Numbers.{word_at}
-use borrow.Author.Rules.{rules}
 use Rattle.case_bytes.proofs.word_at.Goals as goal
 
 pub returns : goal.returns

@@ -1,8 +1,6 @@
 use Prim.Native.Nat.{◌≤◌, ◌-◌}
-use mathlib.Core.Path.{◌≡◌, refl}
+use mathlib.Core.Path.{◌≡◌}
 use Rattle.case_form.specs.Form.{file_of}
-use Rattle.case_form.proofs.Laws.{file_more}
-use native.Mathlib.Omega.{arith}
 use Rattle.case_form.proofs.file_of.Given as goal
 
 abbrev pub invariant-loop-i : goal.invariant-loop-i

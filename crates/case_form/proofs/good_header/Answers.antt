@@ -1,5 +1,4 @@
 use Rattle.case_form.specs.Form.{good_header}
-use borrow.Author.Rules.{rules}
 use Rattle.case_form.proofs.good_header.Goals as goal
 
 pub returns : goal.returns

@@ -1,5 +1,4 @@
 use Rattle.case_form.proofs.Laws.{place_general, place_last, place_next, place_same}
-use borrow.Author.Rules.{rules}
 use Rattle.case_form.proofs.place.Goals as goal
 
 pub returns-then-i-lt8 : goal.returns-then-i-lt8

@@ -1,5 +1,4 @@
 use Rattle.case_form.specs.Form.{state_of}
-use borrow.Author.Rules.{rules}
 use Rattle.case_form.proofs.state_of.Goals as goal
 
 pub returns : goal.returns

@@ -1,5 +1,4 @@
 use Rattle.code_00.proofs.Laws.{to_place, to_register}
-use borrow.Author.Rules.{rules}
 use Rattle.code_00.proofs.two_places.Goals as goal
 use Rattle.code_00.proofs.two_places.Goals.{else-b-eq1, then-b-eq1}
 

@@ -1,7 +1,6 @@
 use Rattle.sheet.specs.SecondByte.{break_for_emulation}
 use Rattle.code_answer.proofs.DecodesLaws.{decodes_seq}
 use Rattle.code_answer.proofs.FollowLaws.{decodes_known}
-use borrow.Author.Rules.{rules}
 use Rattle.code_0f.proofs.emulation.Goals as goal
 
 pub returns : goal.returns

@@ -1,6 +1,5 @@
 use Rattle.code_operand.proofs.OperandsLaws.{with_place_lem}
 use Rattle.code_answer.proofs.FollowLaws.{with_short_lem, with_word_lem}
-use borrow.Author.Rules.{rules}
 use Rattle.code_40.proofs.multiply.Goals as goal
 
 pub returns-then-word : goal.returns-then-word

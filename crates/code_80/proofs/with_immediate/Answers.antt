@@ -1,5 +1,4 @@
 use Rattle.code_80.proofs.Laws.{with_immediate_lem}
-use borrow.Author.Rules.{rules}
 use Rattle.code_80.proofs.with_immediate.Goals as goal
 
 pub returns : goal.returns

@@ -1,4 +1,3 @@
-use borrow.Author.Rules.{rules}
 use native.Mathlib.Omega.{arith}
 use Rattle.code_8080_answer.proofs.CardLaws.{pair_rest}
 use Rattle.sheet.specs.CardPlaces.{card_pair_at}

@@ -3,7 +3,6 @@ use native.Mathlib.Omega.{arith}
 use Rattle.code_answer.proofs.CodeLaws.{at_one, at_rest}
 use Rattle.code_answer.proofs.FollowLaws.{decodes_known, with_far_lem}
 use mathlib.Core.Path.{refl}
-use borrow.Author.Rules.{rules}
 use Rattle.code_90.proofs.codes98.Goals as goal
 use Rattle.code_90.proofs.codes98.Goals.{else-b-eq152, else-b-eq158, then-b-eq152, then-b-eq158}
 

@@ -1,5 +1,4 @@
 use Rattle.code_bytes.proofs.Laws.{far_reads}
-use Rattle.std.proofs.Common.{rules}
 use Rattle.code_bytes.proofs.code_far.Goals as goal
 
 pub returns : goal.returns

@@ -2,7 +2,6 @@ use native.Mathlib.Omega.{arith}
 use Rattle.code_answer.proofs.CodeLaws.{at_one}
 use Rattle.code_answer.proofs.FollowLaws.{decodes_known, with_word_lem}
 use mathlib.Core.Path.{refl}
-use borrow.Author.Rules.{rules}
 use Rattle.code_c0.proofs.codesc2.Goals as goal
 use Rattle.code_c0.proofs.codesc2.Goals.{else-b-eq196, then-b-eq196}
 

@@ -3,7 +3,6 @@ use Rattle.code_answer.proofs.CodeLaws.{at_one, at_row}
 use Rattle.code_answer.proofs.FollowLaws.{decodes_known, with_word_lem}
 use Rattle.code_answer.proofs.DecodesLaws.{decodes_seq}
 use mathlib.Core.Path.{refl}
-use borrow.Author.Rules.{rules}
 use Rattle.code_c0.proofs.codesc8.Goals as goal
 
 pub returns-then-b-eq200 : goal.returns-then-b-eq200

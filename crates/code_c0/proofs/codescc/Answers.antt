@@ -2,7 +2,6 @@ use native.Mathlib.Omega.{arith}
 use Rattle.code_answer.proofs.CodeLaws.{at_one}
 use Rattle.code_answer.proofs.FollowLaws.{decodes_known, with_byte_lem}
 use mathlib.Core.Path.{refl}
-use borrow.Author.Rules.{rules}
 use Rattle.code_c0.proofs.codescc.Goals as goal
 use Rattle.code_c0.proofs.codescc.Goals.{else-b-eq204, then-b-eq204}
 

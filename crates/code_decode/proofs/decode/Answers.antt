@@ -1,5 +1,4 @@
 use Rattle.sheet.specs.FirstByte.{instruction}
-use borrow.Author.Rules.{rules}
 use Rattle.code_decode.proofs.decode.Goals as goal
 
 pub returns-then-s : goal.returns-then-s

@@ -2,7 +2,6 @@ use native.Mathlib.Omega.{arith}
 use Rattle.code_answer.proofs.CodeLaws.{at_one}
 use mathlib.Core.Path.{refl}
 use Rattle.code_answer.proofs.FollowLaws.{with_far_lem, with_short_lem, with_word_lem}
-use borrow.Author.Rules.{rules}
 use Rattle.code_e0.proofs.codese8.Goals as goal
 use Rattle.code_e0.proofs.codese8.Goals.{else-b-eq232, then-b-eq232}
 

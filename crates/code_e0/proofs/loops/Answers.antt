@@ -2,7 +2,6 @@ use native.Mathlib.Omega.{arith}
 use Rattle.code_answer.proofs.CodeLaws.{at_one}
 use mathlib.Core.Path.{refl}
 use Rattle.code_answer.proofs.FollowLaws.{with_short_lem}
-use borrow.Author.Rules.{rules}
 use Rattle.code_e0.proofs.loops.Goals as goal
 use Rattle.code_e0.proofs.loops.Goals.{in-224, in-225, in-226, in_default}
 

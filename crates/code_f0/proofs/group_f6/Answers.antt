@@ -5,7 +5,6 @@ use Rattle.code_answer.proofs.CodeLaws.{at_one, at_rest}
 use Rattle.code_operand.proofs.OperandsLaws.{by_field, field_below, of_place}
 use Rattle.sheet.specs.FirstByte.{group_f6}
 use Rattle.code_f0.proofs.Laws.{of_immediate}
-use borrow.Author.Rules.{rules}
 use Rattle.code_f0.proofs.group_f6.Goals as goal
 use Rattle.code_f0.proofs.group_f6.Goals.{else-reg-eq2, in-4, in-5, in-6, in_default, then-reg-eq2}
 

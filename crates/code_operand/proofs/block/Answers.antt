@@ -1,5 +1,4 @@
 use Rattle.code_operand.proofs.Laws.{block_is}
-use borrow.Author.Rules.{rules}
 use Rattle.code_operand.proofs.block.Goals as goal
 
 pub returns : goal.returns

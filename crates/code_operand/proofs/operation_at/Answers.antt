@@ -1,6 +1,5 @@
 use Rattle.sheet.specs.FirstByte.{operation_at}
 use Rattle.base_laws.proofs.Table.{table_at}
-use borrow.Author.Rules.{rules}
 use Rattle.code_operand.proofs.operation_at.Goals as goal
 
 pub returns : goal.returns

@@ -1,7 +1,6 @@
 use Rattle.code_prefix.specs.Found.{found}
 use Rattle.code_prefix.proofs.Laws.{no_prefix}
 use Rattle.sheet.specs.Encoding.{prefix_of}
-use borrow.Author.Rules.{rules}
 use Rattle.code_prefix.proofs.prefix.Goals as goal
 
 pub returns-in-38 : goal.returns-in-38

@@ -1,5 +1,4 @@
 use Rattle.console_turns.specs.Stand.{answered_by}
-use Rattle.std.proofs.Common.{rules}
 use Rattle.console_turns.proofs.answered.Goals as goal
 
 pub returns : goal.returns

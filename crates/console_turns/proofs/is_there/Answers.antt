@@ -1,5 +1,4 @@
 use Rattle.console_turns.specs.Stand.{arrives}
-use Rattle.std.proofs.Common.{rules}
 use Rattle.console_turns.proofs.is_there.Goals as goal
 
 pub returns : goal.returns

@@ -1,5 +1,4 @@
 use Rattle.console_turns.specs.Stand.{emptied_by}
-use Rattle.std.proofs.Common.{rules}
 use Rattle.console_turns.proofs.let_go.Goals as goal
 
 pub returns : goal.returns

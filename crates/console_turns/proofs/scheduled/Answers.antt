@@ -1,4 +1,4 @@
-use Rattle.std.proofs.Common.{rules, le-ltb, lt-ltb}
+use Rattle.std.proofs.Common.{le-ltb, lt-ltb}
 use Rattle.console_turns.specs.Stand.{next_of}
 use Rattle.console_turns.proofs.scheduled.Goals as goal
 

@@ -1,8 +1,6 @@
 use borrow.Author.Rules.{rules}
-use mathlib.Core.Path.{◌≡◌}
-use Prim.Native.Nat.{◌≤◌, ◌-◌}
-use lib.ListN.{length}
-use Rattle.do_decimal.proofs.Laws.{Turns, turns_none, turns_more, turns_end}
+use Prim.Native.Nat.{◌-◌}
+use Rattle.do_decimal.proofs.Laws.{turns_none, turns_more, turns_end}
 use Rattle.do_decimal.proofs.chained.Goals as goal
 
 pub loop-i-init : goal.loop-i-init

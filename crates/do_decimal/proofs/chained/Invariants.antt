@@ -1,8 +1,7 @@
-use borrow.Author.Rules.{rules}
 use mathlib.Core.Path.{◌≡◌}
 use Prim.Native.Nat.{◌≤◌, ◌-◌}
 use lib.ListN.{length}
-use Rattle.do_decimal.proofs.Laws.{Turns, turns_none, turns_more, turns_end}
+use Rattle.do_decimal.proofs.Laws.{Turns}
 use Rattle.do_decimal.proofs.chained.Given as goal
 
 abbrev pub invariant-loop-i : goal.invariant-loop-i

@@ -1,8 +1,6 @@
 use borrow.Author.Rules.{rules}
-use mathlib.Core.Path.{◌≡◌}
-use Prim.Native.Nat.{◌≤◌, ◌-◌}
-use lib.ListN.{length}
-use Rattle.do_frame.proofs.Laws.{Copies, copies_none, copies_more, copies_end}
+use Prim.Native.Nat.{◌-◌}
+use Rattle.do_frame.proofs.Laws.{copies_none, copies_more, copies_end}
 use Rattle.do_frame.proofs.copy_pointers.Goals as goal
 
 pub loop-i-init : goal.loop-i-init

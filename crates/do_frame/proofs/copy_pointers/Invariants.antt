@@ -1,8 +1,7 @@
-use borrow.Author.Rules.{rules}
 use mathlib.Core.Path.{◌≡◌}
 use Prim.Native.Nat.{◌≤◌, ◌-◌}
 use lib.ListN.{length}
-use Rattle.do_frame.proofs.Laws.{Copies, copies_none, copies_more, copies_end}
+use Rattle.do_frame.proofs.Laws.{Copies}
 use Rattle.do_frame.proofs.copy_pointers.Given as goal
 
 abbrev pub invariant-loop-i : goal.invariant-loop-i

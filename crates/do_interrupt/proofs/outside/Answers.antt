@@ -1,5 +1,4 @@
 use Rattle.sheet.specs.Interrupts.{outside}
-use borrow.Author.Rules.{rules}
 use Rattle.do_interrupt.proofs.outside.Goals as goal
 
 pub returns : goal.returns

@@ -1,11 +1,8 @@
 use native.Mathlib.Omega.{arith}
 use borrow.Author.Rules.{rules}
 use borrow.Author.Tests.{not-true, not-false}
-use Prim.Native.Nat.{◌≤◌, ◌-◌}
-use mathlib.Core.Path.{◌≡◌}
-use lib.ListN.{length}
-use Rattle.sheet.specs.World.{world, state_of}
-use Rattle.step_answer.proofs.RunLaws.{Continues, continues_none, continues_more, runs_stop, runs_end}
+use Prim.Native.Nat.{◌-◌}
+use Rattle.step_answer.proofs.RunLaws.{continues_none, continues_more, runs_stop, runs_end}
 use Rattle.engine.proofs.go_on.Goals as goal
 
 pub loop-steps-init : goal.loop-steps-init

@@ -1,11 +1,8 @@
-use native.Mathlib.Omega.{arith}
-use borrow.Author.Rules.{rules}
-use borrow.Author.Tests.{not-true, not-false}
 use Prim.Native.Nat.{◌≤◌, ◌-◌}
 use mathlib.Core.Path.{◌≡◌}
 use lib.ListN.{length}
 use Rattle.sheet.specs.World.{world, state_of}
-use Rattle.step_answer.proofs.RunLaws.{Continues, continues_none, continues_more, runs_stop, runs_end}
+use Rattle.step_answer.proofs.RunLaws.{Continues}
 use Rattle.engine.proofs.go_on.Given as goal
 
 abbrev pub invariant-loop-steps : goal.invariant-loop-steps

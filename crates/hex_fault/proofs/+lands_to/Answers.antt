@@ -1,7 +1,6 @@
 use Rattle.hex_line.proofs.Laws.{all_none}
 use Rattle.hex_fault.proofs.Laws.{lands_step}
 use borrow.Author.Rules.{rules}
-use Prim.Native.Nat.{ℕ, ◌<◌}
 use Rattle.hex_fault.proofs.+lands_to.Goals as goal
 
 pub returns-then-k-eq0 : goal.returns-then-k-eq0

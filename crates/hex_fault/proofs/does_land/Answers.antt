@@ -1,4 +1,3 @@
-use native.Mathlib.Omega.{arith}
 use Rattle.hex_line.proofs.Bounds.{size_bound}
 use Rattle.hex_fault.proofs.Laws.{data_lands, others_land}
 use borrow.Author.Rules.{rules}

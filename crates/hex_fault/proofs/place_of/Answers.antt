@@ -1,7 +1,6 @@
 use native.Mathlib.Omega.{arith}
 use Rattle.hex_line.proofs.Bounds.{offset_bound}
 use Rattle.hex_form.specs.Reading.{place}
-use borrow.Author.Rules.{rules}
 use Rattle.hex_fault.proofs.place_of.Goals as goal
 
 pub overflow_add-result : goal.overflow_add-result

@@ -1,6 +1,5 @@
 use Rattle.hex_line.proofs.Laws.{all_none, digits_step}
 use borrow.Author.Rules.{rules}
-use Prim.Native.Nat.{ℕ, ◌<◌}
 use Rattle.hex_line.proofs.+digits_to.Goals as goal
 
 pub returns-then-k-eq0 : goal.returns-then-k-eq0

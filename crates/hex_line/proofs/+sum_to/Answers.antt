@@ -2,7 +2,6 @@ use native.Mathlib.Omega.{arith}
 use Rattle.hex_line.proofs.Bounds.{sum_bound, byte_bound}
 use Rattle.hex_line.proofs.Laws.{sum_none, sum_step}
 use borrow.Author.Rules.{rules}
-use Prim.Native.Nat.{ℕ, ◌<◌}
 use Rattle.hex_line.proofs.+sum_to.Goals as goal
 
 pub returns-then-k-eq0 : goal.returns-then-k-eq0

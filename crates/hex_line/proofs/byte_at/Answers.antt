@@ -1,5 +1,4 @@
 use Rattle.hex_form.specs.Line.{byte}
-use borrow.Author.Rules.{rules}
 use Rattle.hex_line.proofs.byte_at.Goals as goal
 
 pub returns : goal.returns

@@ -1,7 +1,6 @@
 use native.Mathlib.Omega.{arith}
 use Rattle.hex_line.proofs.Bounds.{size_bound}
 use Rattle.hex_form.specs.Line.{summed}
-use borrow.Author.Rules.{rules}
 use Rattle.hex_line.proofs.is_summed.Goals as goal
 
 pub overflow_add-size_of : goal.overflow_add-size_of

@@ -1,7 +1,6 @@
 use native.Mathlib.Omega.{arith}
 use Rattle.hex_line.proofs.Bounds.{size_bound, width_bound}
 use Rattle.hex_form.specs.Line.{written}
-use borrow.Author.Rules.{rules}
 use Rattle.hex_line.proofs.is_written.Goals as goal
 
 pub overflow_mul-size_of : goal.overflow_mul-size_of

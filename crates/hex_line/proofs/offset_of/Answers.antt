@@ -1,7 +1,6 @@
 use Rattle.hex_form.specs.Line.{offset}
 use native.Mathlib.Omega.{arith}
 use Rattle.hex_line.proofs.Bounds.{byte_bound}
-use borrow.Author.Rules.{rules}
 use Rattle.hex_line.proofs.offset_of.Goals as goal
 
 pub overflow_mul-result : goal.overflow_mul-result

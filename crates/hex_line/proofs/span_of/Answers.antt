@@ -1,7 +1,6 @@
 use native.Mathlib.Omega.{arith}
 use Rattle.hex_line.proofs.Bounds.{width_bound, ending_bound}
 use Rattle.hex_form.specs.Line.{span}
-use borrow.Author.Rules.{rules}
 use Rattle.hex_line.proofs.span_of.Goals as goal
 
 pub ending_at-requires : goal.ending_at-requires

@@ -1,7 +1,6 @@
 use Rattle.hex_form.specs.Line.{width}
 use native.Mathlib.Omega.{arith}
 use Rattle.hex_line.proofs.Bounds.{size_bound}
-use borrow.Author.Rules.{rules}
 use Rattle.hex_line.proofs.width_of.Goals as goal
 
 pub overflow_mul-result : goal.overflow_mul-result

@@ -1,7 +1,6 @@
 use native.Mathlib.Omega.{arith}
 use Rattle.hex_put.proofs.Laws.{sum_none, sum_step, sum_bound}
 use borrow.Author.Rules.{rules}
-use Prim.Native.Nat.{ℕ, ◌<◌}
 use Rattle.hex_put.proofs.+sum_of.Goals as goal
 
 pub returns-then-k-eq0 : goal.returns-then-k-eq0

@@ -1,7 +1,6 @@
 use Rattle.hex_form.specs.Writing.{checksum}
 use native.Mathlib.Omega.{arith}
 use Rattle.hex_put.proofs.Laws.{sum_bound}
-use borrow.Author.Rules.{rules}
 use Rattle.hex_put.proofs.checksum_of.Goals as goal
 
 pub overflow_sub-result : goal.overflow_sub-result

@@ -1,4 +1,4 @@
-use Rattle.hex_put.proofs.Laws.{head_within, data_room, data_fits, filled}
+use Rattle.hex_put.proofs.Laws.{filled}
 use borrow.Author.Rules.{rules}
 use Rattle.hex_put.proofs.fill.Goals as goal
 

@@ -1,11 +1,7 @@
-use borrow.Author.Rules.{rules}
 use Rattle.hex_form.specs.Writing.{pairs}
 use Rattle.base_line.specs.Adds.{Adds}
-use lib.Seq.{take_all}
 use lib.ListN.{length, take}
 use Prim.Native.Nat.{◌-◌, ◌≤◌}
-use native.Mathlib.Omega.{arith}
-use Rattle.hex_put.proofs.Laws.{no_pairs, more_pairs}
 use Rattle.hex_put.proofs.put_pairs.Given as goal
 
 abbrev pub invariant-loop-i : goal.invariant-loop-i

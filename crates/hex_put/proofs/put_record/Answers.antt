@@ -1,4 +1,4 @@
-use Rattle.hex_put.proofs.Laws.{bytes_within, bytes_long, text_within, text_long, text_short, record_put}
+use Rattle.hex_put.proofs.Laws.{bytes_long, text_within, text_long, text_short, record_put}
 use borrow.Author.Rules.{rules}
 use Rattle.hex_put.proofs.put_record.Goals as goal
 

@@ -2,7 +2,6 @@ use native.Mathlib.Omega.{arith}
 use Rattle.hex_line.proofs.Bounds.{byte_bound}
 use Rattle.hex_read.proofs.Storing.{none_stored, one_more_stored}
 use borrow.Author.Rules.{rules}
-use Prim.Native.Nat.{ℕ, ◌<◌}
 use Rattle.hex_read.proofs.+store_to.Goals as goal
 
 pub returns-then-k-eq0 : goal.returns-then-k-eq0

@@ -1,9 +1,8 @@
 use Rattle.hex_read.proofs.Checking.{fits, long}
 use borrow.Author.Rules.{rules}
-use lib.ListN.{length}
 use Prim.Native.Nat.{◌-◌}
 use native.Mathlib.Omega.{arith}
-use Rattle.hex_read.proofs.Checking.{Checking, begun, refused, fits, long, whole, text_behind, passed, end_missing}
+use Rattle.hex_read.proofs.Checking.{begun, refused, fits, long, whole, text_behind, passed, end_missing}
 use Rattle.hex_read.proofs.check.Goals as goal
 
 pub loop-at-init : goal.loop-at-init

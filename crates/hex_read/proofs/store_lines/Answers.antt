@@ -1,8 +1,7 @@
 use borrow.Author.Rules.{rules}
-use lib.ListN.{length}
 use Prim.Native.Nat.{◌-◌}
 use native.Mathlib.Omega.{arith}
-use Rattle.hex_read.proofs.Storing.{Storing, begun, fits, long, end_met, line_stored, text_ended}
+use Rattle.hex_read.proofs.Storing.{begun, fits, long, end_met, line_stored, text_ended}
 use Rattle.hex_read.proofs.store_lines.Goals as goal
 
 pub loop-at-init : goal.loop-at-init

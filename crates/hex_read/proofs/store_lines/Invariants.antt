@@ -1,8 +1,6 @@
-use borrow.Author.Rules.{rules}
 use lib.ListN.{length}
 use Prim.Native.Nat.{◌-◌}
-use native.Mathlib.Omega.{arith}
-use Rattle.hex_read.proofs.Storing.{Storing, begun, fits, long, end_met, line_stored, text_ended}
+use Rattle.hex_read.proofs.Storing.{Storing}
 use Rattle.hex_read.proofs.store_lines.Given as goal
 
 abbrev pub invariant-loop-at : goal.invariant-loop-at

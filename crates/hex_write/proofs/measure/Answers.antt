@@ -1,9 +1,8 @@
 use Rattle.hex_write.proofs.Lines.{chunk_bound}
 use borrow.Author.Rules.{rules}
 use Prim.Native.Nat.{◌-◌}
-use lib.ListN.{length}
 use native.Mathlib.Omega.{arith}
-use Rattle.hex_write.proofs.Lines.{Measuring, measure_begun, measured_more, measured}
+use Rattle.hex_write.proofs.Lines.{measure_begun, measured_more, measured}
 use Rattle.hex_write.proofs.measure.Goals as goal
 
 pub loop-i-init : goal.loop-i-init

@@ -1,9 +1,6 @@
-use Rattle.hex_write.proofs.Lines.{chunk_bound}
-use borrow.Author.Rules.{rules}
 use Prim.Native.Nat.{◌-◌}
 use lib.ListN.{length}
-use native.Mathlib.Omega.{arith}
-use Rattle.hex_write.proofs.Lines.{Measuring, measure_begun, measured_more, measured}
+use Rattle.hex_write.proofs.Lines.{Measuring}
 use Rattle.hex_write.proofs.measure.Given as goal
 
 abbrev pub invariant-loop-i : goal.invariant-loop-i

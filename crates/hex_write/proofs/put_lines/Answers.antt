@@ -1,9 +1,8 @@
 use Rattle.hex_write.proofs.Lines.{end_same}
 use borrow.Author.Rules.{rules}
 use Prim.Native.Nat.{◌-◌}
-use lib.ListN.{length}
 use native.Mathlib.Omega.{arith}
-use Rattle.hex_write.proofs.Lines.{Putting, part_few, begun, at_within, chunk_room, on, put, end_room, end_fits, end_put}
+use Rattle.hex_write.proofs.Lines.{part_few, begun, at_within, chunk_room, on, put, end_room, end_fits, end_put}
 use Rattle.hex_write.proofs.put_lines.Goals as goal
 
 pub loop-i-init : goal.loop-i-init

@@ -1,5 +1,4 @@
 use Rattle.mach_element.specs.Due.{due_of}
-use borrow.Author.Rules.{rules}
 use Rattle.mach_element.proofs.what_is_due.Goals as goal
 
 pub returns-in-Once : goal.returns-in-Once

@@ -1,6 +1,5 @@
 use Rattle.mach_forms.proofs.Laws.{form_is}
 use mathlib.Core.Path.{refl}
-use borrow.Author.Rules.{rules}
 use Rattle.mach_forms.proofs.form_at.Goals as goal
 
 pub returns : goal.returns

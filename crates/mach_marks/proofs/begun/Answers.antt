@@ -1,4 +1,3 @@
-use borrow.Author.Rules.{rules}
 use Rattle.mach_marks.proofs.begun.Goals as goal
 
 pub returns : goal.returns

@@ -1,6 +1,4 @@
-use Rattle.mach_tally.proofs.Laws.{sums}
 use Rattle.mach_stack.proofs.Laws.{vectored_is}
-use borrow.Author.Rules.{rules}
 use Rattle.mach_stack.proofs.vectored.Goals as goal
 
 pub returns : goal.returns

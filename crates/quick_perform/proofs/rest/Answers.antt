@@ -1,5 +1,4 @@
 use Rattle.quick_perform.proofs.Laws.{rest_file, rest_memory, rest_tries, rest_else}
-use mathlib.Core.Path.{refl}
 use borrow.Author.Rules.{rules}
 use Rattle.quick_perform.proofs.rest.Goals as goal
 

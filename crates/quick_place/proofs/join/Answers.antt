@@ -2,7 +2,6 @@ use Rattle.quick_place.proofs.Laws.{joins}
 use Rattle.quick_place.specs.Packed.{unjoined}
 use mathlib.Core.Path.{refl}
 use native.Mathlib.Omega.{arith}
-use borrow.Author.Rules.{rules}
 use Rattle.quick_place.proofs.join.Goals as goal
 
 pub returns-then-size-gt8 : goal.returns-then-size-gt8

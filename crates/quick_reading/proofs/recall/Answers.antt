@@ -1,6 +1,5 @@
 use mathlib.Core.Path.{refl}
 use Rattle.quick_reading.proofs.Laws.{recalled, remembered}
-use borrow.Author.Rules.{rules}
 use Rattle.quick_reading.proofs.recall.Goals as goal
 
 pub returns-then-memo-i : goal.returns-then-memo-i

@@ -1,12 +1,10 @@
 use native.Mathlib.Omega.{arith}
 use borrow.Author.Rules.{rules}
-use Prim.Native.Nat.{◌≤◌, ◌-◌}
-use mathlib.Core.Path.{◌≡◌, refl, ap, ◌∙◌}
+use Prim.Native.Nat.{◌-◌}
+use mathlib.Core.Path.{refl, ap, ◌∙◌}
 use lib.ListN.{length}
 use borrow.Author.Tests.{lt-leb}
-use Rattle.quick_reading.specs.Readings.{Remembers}
-use Rattle.quick_stand.specs.Stand.{Lent}
-use Rattle.quick_run.proofs.Laws.{Goes, goes_none, goes_more, goes_fits, goes_stop, goes_end}
+use Rattle.quick_run.proofs.Laws.{goes_none, goes_more, goes_fits, goes_stop, goes_end}
 use Rattle.quick_run.proofs.go_on.Goals as goal
 
 pub loop-steps-init : goal.loop-steps-init

@@ -1,6 +1,5 @@
 use Rattle.quick_tally.proofs.Laws.{of_bus_is}
 use mathlib.Core.Path.{refl}
-use borrow.Author.Rules.{rules}
 use Rattle.quick_tally.proofs.of_bus.Goals as goal
 
 pub returns : goal.returns

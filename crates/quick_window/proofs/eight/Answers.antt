@@ -1,8 +1,6 @@
 use mathlib.Core.Path.{refl}
 use Rattle.quick_window.specs.Spelled.{listed}
-use native.Mathlib.Omega.{arith}
 use Rattle.quick_window.proofs.Laws.{eight_is}
-use borrow.Author.Rules.{rules}
 use Rattle.quick_window.proofs.eight.Goals as goal
 
 pub returns : goal.returns

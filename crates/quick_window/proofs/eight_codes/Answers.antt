@@ -1,7 +1,5 @@
 use mathlib.Core.Path.{refl}
-use native.Mathlib.Omega.{arith}
 use Rattle.quick_window.proofs.Laws.{eight_is}
-use borrow.Author.Rules.{rules}
 use Rattle.quick_window.proofs.eight_codes.Goals as goal
 
 pub returns : goal.returns

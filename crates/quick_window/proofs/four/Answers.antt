@@ -2,7 +2,6 @@ use mathlib.Core.Path.{refl}
 use Rattle.quick_window.specs.Spelled.{listed}
 use native.Mathlib.Omega.{arith}
 use Rattle.quick_window.proofs.Laws.{four_is}
-use borrow.Author.Rules.{rules}
 use Rattle.quick_window.proofs.four.Goals as goal
 
 pub returns : goal.returns

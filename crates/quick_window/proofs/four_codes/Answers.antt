@@ -1,7 +1,6 @@
 use mathlib.Core.Path.{refl}
 use native.Mathlib.Omega.{arith}
 use Rattle.quick_window.proofs.Laws.{four_is}
-use borrow.Author.Rules.{rules}
 use Rattle.quick_window.proofs.four_codes.Goals as goal
 
 pub returns : goal.returns

@@ -1,5 +1,4 @@
 use Rattle.quick_window.proofs.Laws.{in_ram, in_rom}
-use native.Mathlib.Omega.{arith}
 use borrow.Author.Rules.{rules}
 use Rattle.quick_window.proofs.window.Goals as goal
 

@@ -1,7 +1,6 @@
 use Prim.Native.Nat.{◌-◌}
-use native.Mathlib.Omega.{arith}
 use Rattle.rom_form.specs.Listing.{top}
-use Rattle.rom_list.proofs.Laws.{Counting, counting_begun, counting_more, counted, moves}
+use Rattle.rom_list.proofs.Laws.{Counting}
 use Rattle.rom_list.proofs.measure.Given as goal
 
 -- `rom_list::measure` meets its contract. The loop's invariant is `Counting`.

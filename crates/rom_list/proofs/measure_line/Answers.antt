@@ -1,4 +1,3 @@
-use mathlib.Core.Path.{refl}
 use borrow.Author.Rules.{rules}
 use Rattle.rom_list.proofs.Laws.{measured}
 use Rattle.rom_list.proofs.measure_line.Goals as goal

@@ -1,5 +1,4 @@
 use mathlib.Core.Path.{refl}
-use borrow.Author.Rules.{rules}
 use Rattle.rom_list.proofs.LineText.{text_within, text_long}
 use Rattle.rom_list.proofs.Laws.{put_so, room_so}
 use Rattle.rom_list.proofs.put_line.Goals as goal

@@ -1,8 +1,7 @@
 use Prim.Native.Nat.{◌-◌}
 use native.Mathlib.Omega.{arith}
 use Rattle.base_laws.proofs.Writing.{same}
-use Rattle.rom_form.specs.Listing.{top}
-use Rattle.rom_list.proofs.Laws.{Writing, writing_begun, line_room, writing_more, written, moves}
+use Rattle.rom_list.proofs.Laws.{writing_begun, line_room, writing_more, written, moves}
 use Rattle.rom_list.proofs.put_lines.Goals as goal
 
 pub overflow_cast-a : goal.overflow_cast-a

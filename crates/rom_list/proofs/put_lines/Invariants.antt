@@ -1,8 +1,6 @@
 use Prim.Native.Nat.{◌-◌}
-use native.Mathlib.Omega.{arith}
-use Rattle.base_laws.proofs.Writing.{same}
 use Rattle.rom_form.specs.Listing.{top}
-use Rattle.rom_list.proofs.Laws.{Writing, writing_begun, line_room, writing_more, written, moves}
+use Rattle.rom_list.proofs.Laws.{Writing}
 use Rattle.rom_list.proofs.put_lines.Given as goal
 
 -- `rom_list::put_lines` meets its contract. The loop's invariant is `Writing`.

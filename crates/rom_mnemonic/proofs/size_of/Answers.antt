@@ -1,4 +1,3 @@
-use borrow.Author.Rules.{rules}
 use Rattle.rom_mnemonic.specs.Operands.{size_of}
 use Rattle.rom_mnemonic.proofs.size_of.Goals as goal
 

@@ -1,5 +1,4 @@
 use Rattle.sheet.specs.Step.{reset}
-use borrow.Author.Rules.{rules}
 use Rattle.step_calls.proofs.reset.Goals as goal
 
 pub returns : goal.returns

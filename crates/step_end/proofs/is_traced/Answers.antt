@@ -1,4 +1,3 @@
-use borrow.Author.Rules.{rules}
 use Rattle.step_end.proofs.is_traced.Goals as goal
 
 pub returns : goal.returns

@@ -1,5 +1,4 @@
 use Rattle.quick_run.proofs.SameLaws.{quick_run_is_run}
-use borrow.Author.Rules.{rules}
 use Rattle.quick_run.proofs.taken.run_both.Goals as goal
 
 pub returns : goal.returns

@@ -1,10 +1,6 @@
-use Prim.Native.Nat.{◌-◌, ◌≤◌}
+use Prim.Native.Nat.{◌-◌}
 use native.Mathlib.Omega.{arith}
-use lib.ListN.{length, take}
 use lib.Seq.{take_all}
-use borrow.Author.Rules.{rules}
-use Rattle.base_line.specs.Adds.{Adds}
-use Rattle.rom_form.specs.Listing.{bytes_text}
 use Rattle.rom_list.proofs.LineLaws.{no_digits, more_digits}
 use Rattle.rom_list.proofs.line.put_digits.Goals as goal
 

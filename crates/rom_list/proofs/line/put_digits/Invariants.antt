@@ -1,11 +1,7 @@
 use Prim.Native.Nat.{◌-◌, ◌≤◌}
-use native.Mathlib.Omega.{arith}
 use lib.ListN.{length, take}
-use lib.Seq.{take_all}
-use borrow.Author.Rules.{rules}
 use Rattle.base_line.specs.Adds.{Adds}
 use Rattle.rom_form.specs.Listing.{bytes_text}
-use Rattle.rom_list.proofs.LineLaws.{no_digits, more_digits}
 use Rattle.rom_list.proofs.line.put_digits.Given as goal
 
 -- `rom_list::line::put_digits` meets its contract. The loop's invariant: the first i bytes stand in the line.

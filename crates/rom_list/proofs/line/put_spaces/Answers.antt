@@ -1,9 +1,6 @@
-use Prim.Native.Nat.{◌-◌, ◌≤◌}
+use Prim.Native.Nat.{◌-◌}
 use mathlib.Core.Path.{◌≡◌}
 use native.Mathlib.Omega.{arith}
-use lib.ListN.{replicate}
-use borrow.Author.Rules.{rules}
-use Rattle.base_line.specs.Adds.{Adds}
 use Rattle.base_line.proofs.Laws.{nothing}
 use Rattle.rom_list.proofs.LineLaws.{more_spaces}
 use Rattle.rom_list.proofs.line.put_spaces.Goals as goal

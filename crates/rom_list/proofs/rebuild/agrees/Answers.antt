@@ -1,8 +1,7 @@
 use Prim.Native.Nat.{◌-◌}
 use native.Mathlib.Omega.{arith}
 use borrow.Author.Rules.{rules}
-use Rattle.rom_form.specs.Listing.{top}
-use Rattle.rom_list.proofs.Agreeing.{Agreeing, begun, few, on_by_one, line_agrees, line_differs, all_compared}
+use Rattle.rom_list.proofs.Agreeing.{begun, few, on_by_one, line_agrees, line_differs, all_compared}
 use Rattle.rom_list.proofs.rebuild.agrees.Goals as goal
 
 pub overflow_cast-a : goal.overflow_cast-a

@@ -1,8 +1,6 @@
 use Prim.Native.Nat.{◌-◌}
-use native.Mathlib.Omega.{arith}
-use borrow.Author.Rules.{rules}
 use Rattle.rom_form.specs.Listing.{top}
-use Rattle.rom_list.proofs.Agreeing.{Agreeing, begun, few, on_by_one, line_agrees, line_differs, all_compared}
+use Rattle.rom_list.proofs.Agreeing.{Agreeing}
 use Rattle.rom_list.proofs.rebuild.agrees.Given as goal
 
 -- `rom_list::rebuild::agrees` meets its contract. The loop's invariant is `Agreeing`.

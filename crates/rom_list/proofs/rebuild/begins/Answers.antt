@@ -1,8 +1,7 @@
 use Prim.Native.Nat.{◌-◌}
 use native.Mathlib.Omega.{arith}
-use lib.ListN.{length}
 use borrow.Author.Rules.{rules}
-use Rattle.rom_list.proofs.Comparing.{Alike, too_short, none_compared, one_differs, one_more, all_compared}
+use Rattle.rom_list.proofs.Comparing.{too_short, none_compared, one_differs, one_more, all_compared}
 use Rattle.rom_list.proofs.rebuild.begins.Goals as goal
 
 pub returns-then-s-x : goal.returns-then-s-x

@@ -1,8 +1,6 @@
 use Prim.Native.Nat.{◌-◌}
-use native.Mathlib.Omega.{arith}
 use lib.ListN.{length}
-use borrow.Author.Rules.{rules}
-use Rattle.rom_list.proofs.Comparing.{Alike, too_short, none_compared, one_differs, one_more, all_compared}
+use Rattle.rom_list.proofs.Comparing.{Alike}
 use Rattle.rom_list.proofs.rebuild.begins.Given as goal
 
 -- `rom_list::rebuild::begins` meets its contract. The loop's invariant is `Alike`.

@@ -1,9 +1,6 @@
 use Prim.Native.Nat.{◌-◌}
-use native.Mathlib.Omega.{arith}
 use lib.ListN.{length}
-use borrow.Author.Rules.{rules}
-use Rattle.rom_list.proofs.Characters.{digit_bound}
-use Rattle.rom_list.proofs.Reading.{Going, begun, room_kept, line_ended, passed, put, too_long, all_read}
+use Rattle.rom_list.proofs.Reading.{Going}
 use Rattle.rom_list.proofs.rebuild.restore.Given as goal
 
 -- `rom_list::rebuild::restore` meets its contract. The loop's invariant is `Going`.
