@@ -13,7 +13,7 @@ use Rattle.sheet.specs.declared.Amount.TheVariants.{InCl, Given}
 use Rattle.sheet.specs.declared.Bit.{Bit}
 use Rattle.sheet.specs.declared.Bit.TheVariants.{Test1, Clr1, Set1, Not1}
 use Rattle.sheet.specs.declared.Length.{Length}
-use Rattle.sheet.specs.declared.Length.TheVariants as length
+use Rattle.sheet.specs.declared.Length.TheVariants as lengths
 use Rattle.sheet.specs.declared.Prefixes.{Prefixes}
 use Rattle.sheet.specs.declared.Instr.{Instr}
 use Rattle.sheet.specs.Groups.{Bits}
@@ -65,7 +65,7 @@ module _ {p : Prefixes} {src : ℕ → ℕ} {i reg j b : ℕ} {a : Place} (o : O
 -- ---- bit fields
 
 module _ {src : ℕ → ℕ} {i j m : ℕ} (k : ℕ → Length → Instr) (x : Reads ℕ byte src i m j) where
-  field_register : {r : Decoded} → m / 64 ≡ 3 → r ≡ Known (k (m % 8) (length.InRegister (m / 8 % 8))) j → Decodes (field_in_register (λ o l. got (k o l))) src i r
+  field_register : {r : Decoded} → m / 64 ≡ 3 → r ≡ Known (k (m % 8) (lengths.InRegister (m / 8 % 8))) j → Decodes (field_in_register (λ o l. got (k o l))) src i r
   unfolding field_in_register
   field_register h e = decodes_seq _ x (decodes_allowed _ (eq-eqb (mod_field m) 3 h) (decodes_known e))
 
@@ -73,7 +73,7 @@ module _ {src : ℕ → ℕ} {i j m : ℕ} (k : ℕ → Length → Instr) (x : R
   unfolding field_in_register
   no_register h = decodes_seq _ x (decodes_barred _ (ne_eqb (mod_field m) 3 h))
 
-  field_given_lem : {n l : ℕ} {r : Decoded} → m / 8 ≡ 24 → Reads ℕ byte src j n l → r ≡ Known (k (m % 8) (length.Given n)) l → Decodes (field_given (λ o l. got (k o l))) src i r
+  field_given_lem : {n l : ℕ} {r : Decoded} → m / 8 ≡ 24 → Reads ℕ byte src j n l → r ≡ Known (k (m % 8) (lengths.Given n)) l → Decodes (field_given (λ o l. got (k o l))) src i r
   unfolding field_given
   field_given_lem h y e =
       let f : mod_field m ≡ 3 = omega arith in
@@ -94,8 +94,8 @@ module _ {src : ℕ → ℕ} {i m : ℕ} (k : ℕ → Length → Instr) (x : Rea
   no_length g h = rw g (no_given k x h)
 
   module _ {given : Bool} {next : ℕ} {a : Length} {r : Decoded} (s : next ≡ pick given (i + 2) (i + 1)) (e : r ≡ Known (k (m % 8) a) next) where
-    pub length_given : {n : ℕ} → given ≡ true → m / 8 ≡ 24 → Reads ℕ byte src (i + 1) n (i + 1 + 1) → a ≡ length.Given n → Decodes (pick given (field_given (λ o l. got (k o l))) (field_in_register (λ o l. got (k o l)))) src i r
+    pub length_given : {n : ℕ} → given ≡ true → m / 8 ≡ 24 → Reads ℕ byte src (i + 1) n (i + 1 + 1) → a ≡ lengths.Given n → Decodes (pick given (field_given (λ o l. got (k o l))) (field_in_register (λ o l. got (k o l)))) src i r
     length_given g h y q = let z : next ≡ i + 2 = s ∙ rw g in rw g (field_given_lem k x h (rw (add_assoc i 1 1) at y) (rw (q, z) at e))
 
-    pub length_held : given ≡ false → m / 64 ≡ 3 → a ≡ length.InRegister (m / 8 % 8) → Decodes (pick given (field_given (λ o l. got (k o l))) (field_in_register (λ o l. got (k o l)))) src i r
+    pub length_held : given ≡ false → m / 64 ≡ 3 → a ≡ lengths.InRegister (m / 8 % 8) → Decodes (pick given (field_given (λ o l. got (k o l))) (field_in_register (λ o l. got (k o l)))) src i r
     length_held g h q = let z : next ≡ i + 1 = s ∙ rw g in rw g (field_register k x h (rw (q, z) at e))

@@ -2,7 +2,7 @@
 #![tactic(auto)]
 
 ghost use Rattle.std.specs.Prelude.{ℕ, ◌+◌, ◌≤◌};
-ghost use Rattle.sheet.specs.Reading.{byte, word as wordRead, signed_byte, immediate as immediateRead};
+ghost use Rattle.sheet.specs.Reading.{byte, word as word_read, signed_byte, immediate as immediate_read};
 ghost use Rattle.code_answer.specs.Lent.{lent_code};
 ghost use Rattle.sheet.specs.Contract.{Reads};
 ghost use Rattle.code_answer.specs.Answer.{Takes};
@@ -30,7 +30,7 @@ pub fn code_byte(ram: &[u8], rom: &[u8], ps: u16, pc: u16, i: u16) -> u8
 // Low byte first.
 pub fn code_word(ram: &[u8], rom: &[u8], ps: u16, pc: u16, i: u16) -> u16
     requires { i ≤ 8 }
-    ensures { Reads ℕ wordRead (lent_code ram rom ps pc) i result (i + 2) }
+    ensures { Reads ℕ word_read (lent_code ram rom ps pc) i result (i + 2) }
 {
     let low = code_byte(ram, rom, ps, pc, i) as u16;
     let high = code_byte(ram, rom, ps, pc, i + 1) as u16;
@@ -48,7 +48,7 @@ pub fn code_short(ram: &[u8], rom: &[u8], ps: u16, pc: u16, i: u16) -> u16
 // An immediate of a width.
 pub fn code_immediate(ram: &[u8], rom: &[u8], ps: u16, pc: u16, word: bool, i: u16) -> NumberRead
     requires { i ≤ 8 }
-    ensures { Takes ℕ (immediateRead word) (lent_code ram rom ps pc) i result.value result.next 2 }
+    ensures { Takes ℕ (immediate_read word) (lent_code ram rom ps pc) i result.value result.next 2 }
 {
     if word {
         return NumberRead {
@@ -65,8 +65,8 @@ pub fn code_immediate(ram: &[u8], rom: &[u8], ps: u16, pc: u16, word: bool, i: u
 // Four bytes: the offset, then the segment.
 pub fn code_far(ram: &[u8], rom: &[u8], ps: u16, pc: u16, i: u16) -> FarRead
     requires { i ≤ 6 }
-    ensures { Reads ℕ wordRead (lent_code ram rom ps pc) i result.offset (i + 2)
-        × Reads ℕ wordRead (lent_code ram rom ps pc) (i + 2) result.segment (i + 4) }
+    ensures { Reads ℕ word_read (lent_code ram rom ps pc) i result.offset (i + 2)
+        × Reads ℕ word_read (lent_code ram rom ps pc) (i + 2) result.segment (i + 4) }
 {
     FarRead {
         offset: code_word(ram, rom, ps, pc, i),

@@ -9,7 +9,7 @@ ghost use Rattle.sheet.specs.Registers.{in_ds0};
 ghost use Rattle.sheet.specs.FirstByte.{operation_at, shifts};
 ghost use Rattle.code_answer.specs.Lent.{lent_code};
 ghost use Rattle.sheet.specs.Encoding.{W, seg_or, mod_field, mem_field};
-ghost use Rattle.sheet.specs.Encoding.{formed as formedOf, direct as directOf, displacement as displacementRead, address as addressRead};
+ghost use Rattle.sheet.specs.Encoding.{formed as formed_of, direct as direct_of, displacement as displacement_read, address as address_read};
 ghost use Rattle.code_answer.specs.Answer.{Takes};
 ghost use Rattle.code_operand.specs.Operands.{Operands};
 
@@ -46,7 +46,7 @@ pub fn seg_or(seg: Override, usual: u8) -> u8
 
 // An address form with its displacement.
 fn formed(p: Prefixes, n: u8, disp: u16) -> Address
-    ensures { result ≡ formedOf p n disp }
+    ensures { result ≡ formed_of p n disp }
 {
     let form = mach_forms::form_at(n);
     let seg = p.seg;
@@ -59,7 +59,7 @@ fn formed(p: Prefixes, n: u8, disp: u16) -> Address
 
 // An address by itself.
 pub fn direct(p: Prefixes, offset: u16) -> Address
-    ensures { result ≡ directOf p offset }
+    ensures { result ≡ direct_of p offset }
 {
     let seg = p.seg;
     Address::Direct {
@@ -120,7 +120,7 @@ pub fn shift_at(n: u8) -> Shift
 // A displacement: none, a byte with its sign, a word.
 fn displacement(ram: &[u8], rom: &[u8], ps: u16, pc: u16, mode: u8, i: u16) -> NumberRead
     requires { i ≤ 6 }
-    ensures { Takes ℕ (displacementRead mode) (lent_code ram rom ps pc) i result.value result.next 2 }
+    ensures { Takes ℕ (displacement_read mode) (lent_code ram rom ps pc) i result.value result.next 2 }
 {
     if mode == 0 {
         return NumberRead { value: 0, next: i };
@@ -140,7 +140,7 @@ fn displacement(ram: &[u8], rom: &[u8], ps: u16, pc: u16, mode: u8, i: u16) -> N
 // Form 6 without displacement is a 16-bit address instead.
 fn address(ram: &[u8], rom: &[u8], ps: u16, pc: u16, p: Prefixes, m: u8, i: u16) -> AddressRead
     requires { i ≤ 6 }
-    ensures { Takes Address (addressRead p (mod_field m) (mem_field m)) (lent_code ram rom ps pc) i result.address result.next 2 }
+    ensures { Takes Address (address_read p (mod_field m) (mem_field m)) (lent_code ram rom ps pc) i result.address result.next 2 }
 {
     if m / 64 * 8 + m % 8 == 6 {
         let offset = code_bytes::code_word(ram, rom, ps, pc, i);

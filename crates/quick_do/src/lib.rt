@@ -12,7 +12,7 @@ ghost use Rattle.std.specs.Int.Bits.{bit_and};
 ghost use Rattle.sheet.specs.Act.{affect};
 ghost use Rattle.sheet.specs.Arithmetic as tree;
 ghost use Rattle.sheet.specs.Transfer.{mov};
-ghost use Rattle.sheet.specs.Branch.{jump, branch_if, dbnz as dbnzOf};
+ghost use Rattle.sheet.specs.Branch.{jump, branch_if, dbnz as dbnz_of};
 ghost use Rattle.quick_place.specs.Packed.{op_of, unary_at, cond_of, word_of, rm_of, reg_of, disp_of, imm_of, address_of};
 ghost use Rattle.quick_do.specs.Settle.{Sets, settle};
 
@@ -207,7 +207,7 @@ pub fn br(file: &mut [u16; 14], r: u64)
 
 // Kind 23: DBNZ.
 pub fn dbnz(file: &mut [u16; 14], r: u64)
-    ensures { Sets (dbnzOf (disp_of r)) file }
+    ensures { Sets (dbnz_of (disp_of r)) file }
 {
     let cw = calc_word::minus16(file[CW], 1);
     file[CW] = cw;

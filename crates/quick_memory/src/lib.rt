@@ -8,7 +8,7 @@ ghost use Rattle.sheet.specs.FirstByte.{operation_at};
 ghost use Rattle.sheet.specs.Arithmetic.{two, one, conclude};
 ghost use Rattle.sheet.specs.Transfer.{mov, load_acc, store_acc};
 ghost use Rattle.sheet.specs.Stack.{push_register, pop_place};
-ghost use Rattle.sheet.specs.Branch.{call_near, ret as retOf};
+ghost use Rattle.sheet.specs.Branch.{call_near, ret as ret_of};
 ghost use Rattle.mach_tally.specs.Lent.{Does, Takes, Fills};
 ghost use Rattle.mach_memory.specs.Accesses.{Stores};
 ghost use Rattle.quick_tally.specs.Packed.{bus_at};
@@ -200,7 +200,7 @@ pub fn call(file: &mut [u16; 14], ram: &mut [u8], rom: &[u8], r: u64) -> u64
 
 // RET.
 pub fn ret(file: &mut [u16; 14], ram: &[u8], rom: &[u8]) -> u64
-    ensures { Takes Unit retOf file ram rom tt (bus_at result) 6 }
+    ensures { Takes Unit ret_of file ram rom tt (bus_at result) 6 }
 {
     let sp = file[SP];
     let ss = file[SS];

@@ -4,7 +4,7 @@ ghost use Rattle.sheet.specs.Block.{block as block_of};
 ghost use Rattle.sheet.specs.Convert.{convert as convert_of};
 ghost use Rattle.sheet.specs.Decimal.{decimal};
 ghost use Rattle.sheet.specs.declared.Place.TheVariants.{Register};
-ghost use Rattle.sheet.specs.Multiply.{multiply as multiplyOf};
+ghost use Rattle.sheet.specs.Multiply.{multiply as multiply_of};
 ghost use Rattle.sheet.specs.Contract.{OnFile};
 ghost use Rattle.mach_tally.specs.Lent.{Does};
 ghost use Rattle.do_block.specs.Portless.{primitive_of};
@@ -114,7 +114,7 @@ fn multiply_of(r: u64) -> Multiply
 
 // Kind 35: MULU, MUL, DIVU, DIV with a register.
 pub fn multiply(file: &mut [u16; 14], ram: &mut [u8], rom: &[u8], r: u64) -> u64
-    ensures { TriesOn (multiplyOf (product_at (op_of r) (word_of r) (Register (rm_of r)))) file ram rom result 384 }
+    ensures { TriesOn (multiply_of (product_at (op_of r) (word_of r) (Register (rm_of r)))) file ram rom result 384 }
 {
     let i = multiply_of(r);
     let x = do_multiply::multiply(file, ram, rom, i);

@@ -3,9 +3,9 @@ ghost use Rattle.std.specs.Prelude.{◌≡◌, true, false};
 ghost use Rattle.sheet.specs.declared.Place.TheVariants.{Register, Memory};
 ghost use Rattle.sheet.specs.declared.Places.TheVariants.{Counted};
 ghost use Rattle.sheet.specs.Traps.{jump_far};
-ghost use Rattle.sheet.specs.Branch.{dbnz_while, bcwz as bcwzOf};
+ghost use Rattle.sheet.specs.Branch.{dbnz_while, bcwz as bcwz_of};
 ghost use Rattle.sheet.specs.Shift.{shift};
-ghost use Rattle.sheet.specs.Transfer.{ldea as ldeaOf, xch as xchOf, from_segment};
+ghost use Rattle.sheet.specs.Transfer.{ldea as ldea_of, xch as xch_of, from_segment};
 ghost use Rattle.sheet.specs.Contract.{OnFile};
 ghost use Rattle.mach_tally.specs.Lent.{Does};
 ghost use Rattle.quick_tally.specs.Packed.{bus_at};
@@ -65,7 +65,7 @@ pub fn shift_m(file: &mut [u16; 14], ram: &mut [u8], rom: &[u8], r: u64) -> u64
 
 // Kind 39: LDEA.
 pub fn ldea(file: &mut [u16; 14], r: u64)
-    ensures { OnFile Unit (ldeaOf (reg_of r) (address_of r)) file.old tt file.new }
+    ensures { OnFile Unit (ldea_of (reg_of r) (address_of r)) file.old tt file.new }
 {
     let o = quick_do::offset(file, r);
     mach_registers::set_reg(true, file, quick_do::reg_of(r), o);
@@ -73,7 +73,7 @@ pub fn ldea(file: &mut [u16; 14], r: u64)
 
 // Kind 40: XCH of two registers.
 pub fn xch(file: &mut [u16; 14], r: u64)
-    ensures { OnFile Unit (xchOf (word_of r) (reg_of r) (Register (rm_of r))) file.old tt file.new }
+    ensures { OnFile Unit (xch_of (word_of r) (reg_of r) (Register (rm_of r))) file.old tt file.new }
 {
     let word = quick_do::word_of(r);
     let m = quick_do::rm_of(r);
@@ -117,7 +117,7 @@ pub fn dbnze(file: &mut [u16; 14], r: u64)
 
 // Kind 36: BCWZ.
 pub fn bcwz(file: &mut [u16; 14], r: u64)
-    ensures { OnFile Unit (bcwzOf (disp_of r)) file.old tt file.new }
+    ensures { OnFile Unit (bcwz_of (disp_of r)) file.old tt file.new }
 {
     let disp = quick_do::disp_of(r);
     do_conditional::conditional(file, Conditional::Bcwz { disp });

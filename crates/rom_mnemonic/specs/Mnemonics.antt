@@ -10,7 +10,7 @@ use Rattle.sheet.specs.declared.Amount.TheVariants as amount
 use Rattle.sheet.specs.declared.Places.{Places}
 use Rattle.sheet.specs.declared.Places.TheVariants.{One, Counted}
 use Rattle.sheet.specs.declared.Length.{Length}
-use Rattle.sheet.specs.declared.Length.TheVariants as length
+use Rattle.sheet.specs.declared.Length.TheVariants as lengths
 use Rattle.sheet.specs.declared.Port.{Port}
 use Rattle.sheet.specs.declared.Port.TheVariants.{InDw, Numbered}
 use Rattle.sheet.specs.declared.Transfer.{Transfer}
@@ -109,8 +109,8 @@ of_places One = Once
 of_places (Counted a) = of_amount a
 
 unfoldable pub of_length : Length → Operand
-of_length (length.InRegister n) = Reg false n
-of_length (length.Given n) = Value false n
+of_length (lengths.InRegister n) = Reg false n
+of_length (lengths.Given n) = Value false n
 
 abbrev pub in_dw : Operand
 in_dw = Reg true DW

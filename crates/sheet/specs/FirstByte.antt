@@ -337,8 +337,8 @@ bytes_c0 p =
     ∷ row 0xfb 1 (λ b. got (Controls Ei))  -- EI 001:1652
     ∷ row 0xfc 1 (λ b. got (Controls ClrDir))  -- CLR1 DIR 001:1488
     ∷ row 0xfd 1 (λ b. got (Controls SetDir))  -- SET1 DIR 001:1490
-    ∷ row 0xfe 1 (λ b. group_fe p)  -- INC, DEC of bytes: groupFE
-    ∷ row 0xff 1 (λ b. group_ff p)  -- INC, DEC, CALL, BR, PUSH of words: groupFF
+    ∷ row 0xfe 1 (λ b. group_fe p)  -- INC, DEC of bytes: group_fe
+    ∷ row 0xff 1 (λ b. group_ff p)  -- INC, DEC, CALL, BR, PUSH of words: group_ff
     ∷ []
 
 abbrev pub first_bytes : Prefixes → List Row

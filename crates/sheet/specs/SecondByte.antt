@@ -4,7 +4,7 @@ use Rattle.std.specs.Prelude.{ℕ, ◌&&◌, List, [], ◌∷◌, eqb}
 use Rattle.sheet.specs.declared.Place.{Place}
 use Rattle.sheet.specs.declared.Amount.TheVariants.{InCl, Given}
 use Rattle.sheet.specs.declared.Length.{Length}
-use Rattle.sheet.specs.declared.Length.TheVariants as length
+use Rattle.sheet.specs.declared.Length.TheVariants as lengths
 use Rattle.sheet.specs.declared.Bit.{Bit}
 use Rattle.sheet.specs.declared.Bit.TheVariants.{Test1, Clr1, Set1, Not1}
 use Rattle.sheet.specs.declared.Decimal.TheVariants.{Add4s, Sub4s, Cmp4s, Rol4, Ror4}
@@ -45,7 +45,7 @@ unfoldable pub field_in_register : (ℕ → Length → Reading Instr) → Readin
 field_in_register k = do
   m ← byte
   allow (eqb (mod_field m) 3)
-  k (mem_field m) (length.InRegister (reg_field m))
+  k (mem_field m) (lengths.InRegister (reg_field m))
 
 -- 11 000 reg and a byte
 unfoldable pub field_given : (ℕ → Length → Reading Instr) → Reading Instr
@@ -53,7 +53,7 @@ field_given k = do
   m ← byte
   allow (eqb (mod_field m) 3 && eqb (reg_field m) 0)
   n ← byte
-  k (mem_field m) (length.Given n)
+  k (mem_field m) (lengths.Given n)
 
 unfoldable pub break_for_emulation : Reading Instr
 break_for_emulation = do
