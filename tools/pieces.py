@@ -7,6 +7,9 @@ a piece may seem to rest on more than it does. An edit also changes what its new
 import os
 import re
 
+# the files of a function's proof, in its folder below proofs/
+PROOFS = ('/Invariants.antt', '/Answers.antt', '/Proof.antt')
+
 
 class BadEdit(Exception):
     """an edit that cannot be applied"""
@@ -47,15 +50,34 @@ def place(root, file, old):
 
 
 def functions(text):
-    """the top-level functions of a source file: (name, where its head begins, where its body begins, where it ends); one whose body does
-    not begin at the end of a line counts as outside of functions"""
+    """the top-level functions of a source file: (name, where its attributes or its head begin, where its body begins, where it ends); one
+    whose body does not begin at the end of a line counts as outside of functions"""
     found = []
     for head in re.finditer(r'^(?:pub )?fn (\w+)', text, re.M):
         opened = re.compile(r'^\{$|^.*\) .*\{$', re.M).search(text, head.start())
         closed = text.find('\n}', opened.start()) if opened else -1
         if closed >= 0 and not re.search(r'\n[\w#/\n]', text[head.start():opened.end()]):
-            found.append((head.group(1), head.start(), opened.end(), closed + 2))
+            found.append((head.group(1), attributes(text, head.start()), opened.end(), closed + 2))
     return found
+
+
+def attributes(text, head):
+    """where the attributes of the item begin whose head begins there, such as #[tactic(auto, using(..))]; without any, the head"""
+    found = at = head
+    while at > 0:
+        at = text.rfind('\n', 0, at - 1) + 1
+        line = text[at:found].split('\n')[0]
+        if not line.strip() or line.rstrip().endswith(('}', ';')):
+            break
+        if line.startswith('#['):
+            found = at
+    return found
+
+
+def in_cycle(text):
+    """the functions of a source text that have one proof with others, each with the name of their cycle: #[cycle(NAME)]"""
+    cycles = re.finditer(r'^#\[cycle\((\w+)\)\](?:\n(?!\n).*)*?\n(?:pub )?fn (\w+)', text, re.M)
+    return [(cycle.group(2), cycle.group(1)) for cycle in cycles]
 
 
 def around(text, at, old):
@@ -107,25 +129,33 @@ class Pieces:
             for function, begins, _, ends in functions(self.texts[file]):
                 text = self.texts[file][begins:ends]
                 self.direct.setdefault(f'fn {function}', set()).update({file}, self.modules_in(text), self.called_in(text))
+        cycles = {}
+        for file in self.sources:
+            for function, cycle in in_cycle(self.texts[file]):
+                cycles.setdefault(cycle, []).append(function)
         for file in self.texts:
-            if file.endswith('/Proof.antt'):
-                # the proof of one function, or of all in a cycle of calls: proofs/+even+odd/Proof.antt
-                for function in re.findall(r'\w+', file.split('/')[-2]):
+            if file.endswith(PROOFS):
+                # the proof of one function, of one that calls itself, proofs/+sum_to/, or of those with #[cycle(parity)], proofs/+parity/
+                home = file.split('/')[-2]
+                for function in re.findall(r'\w+', home) + cycles.get(home.removeprefix('+'), []):
                     self.direct.setdefault(f'fn {function}', set(self.sources)).add(file)
 
     def modules_in(self, text):
         """the pieces whose modules a text names: files of specs/ and proofs/, types of the code, functions"""
         found = set()
-        for part, path in re.findall(rf'Rattle·{self.name}·(specs|proofs)\b(?:\.\1\b)?((?:\.[^\s.;,(){{}}]+)*)', text):
+        named = re.findall(rf'\bRattle\.{self.name}\.(specs|proofs)\b((?:\.[^\s.;,(){{}}]+)*)', text)
+        # in an attribute, as using(crate::proofs::Laws::is_twice)
+        named += [(part, path.replace('::', '.')) for part, path in re.findall(r'\bcrate::(specs|proofs)\b((?:::\w+)*)', text)]
+        for part, path in named:
             steps = path.split('.')[1:]
             files = (f"{part}/{'/'.join(steps[:n])}.antt" for n in range(1, len(steps) + 1))
             found.update(file for file in files if file in self.texts)
             # by a name for a module that has others below it, each of those may be named
             if not steps or f"{part}/{'/'.join(steps)}.antt" in self.nodes:
                 found.update(file for file in self.texts if file.startswith('/'.join([part, *steps, ''])))
-            if part == 'proofs':
+            if part == 'proofs' or 'contracts' in steps:
                 found.update(f'fn {function}' for step in steps for function in re.findall(r'\w+', step))
-            if 'declared' in steps:
+            if 'declared' in steps or 'contracts' in steps:
                 found.update(self.sources)
         return found
 
