@@ -8,12 +8,11 @@ names=$(all_programs)
 needs $names
 needs_reading
 
-launch console
+kit=$(dirname "$(dirname "$(readlink -f "$(command -v rt)")")")
 packed=$room/packed
-mkdir -p "$packed/programs/lib" "$packed/programs/bin" "$packed/roms/classes" &&
+mkdir -p "$packed/programs/lib" "$packed/roms/classes" &&
     cp "$home/v30" "$home/README.md" "$packed/" && cp -R "$home/commands" "$packed/" &&
-    (cd "$programs" && cp $names "$packed/programs/") && cp "$reader" "$packed/programs/" &&
-    cp -L "$tools"/lib/ld-linux-x86-64.so.2 "$tools"/lib/libc.so.6 "$packed/programs/lib/" &&
-    { [ ! -x "$tools/bin/qemu-x86_64" ] || cp "$tools/bin/qemu-x86_64" "$packed/programs/bin/"; } &&
+    (for name in $names; do cp "$(program "$name")" "$packed/programs/" || exit; done) && cp "$reader" "$packed/programs/" &&
+    cp -L "$kit"/toolchain/lib/ld-linux-x86-64.so.2 "$kit"/toolchain/lib/libc.so.6 "$packed/programs/lib/" &&
     cp -R "$home/roms/classes/classes.rom" "$home/roms/classes/tapes" "$packed/roms/classes/" &&
     mv -T -- "$packed" "$folder" || fail 1 "$folder: cannot be written"

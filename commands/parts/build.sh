@@ -5,13 +5,13 @@ kept=$home/target/v30
 # are_there NAME..: whether these programs are there, of whatever sources
 are_there() {
     local name
-    for name; do [ -x "$home/target/bin/$name" ] || return 1; done
+    for name; do [ -x "$(program "$name")" ] || return 1; done
 }
 
 # is_built NAME..: whether these programs were built from the sources as they stand
 is_built() {
-    [ -f "$kept/built" ] && are_there "$@" &&
-        [ -z "$(find "$home/crates.txt" "$home/crates" -newer "$kept/built" -print -quit)" ]
+    [ -f "$kept/built" ] && are_there "$@" && [ ! "$home/crates.txt" -nt "$kept/built" ] &&
+        [ -z "$(find "$home/crates" -mindepth 2 -name out -prune -o -newer "$kept/built" -print -quit)" ]
 }
 
 # all_programs: those of all commands
@@ -34,7 +34,7 @@ needs() {
     fi
     is_built "$@" || build
     exec {lock}>&-
-    are_there "$@" || fail 1 "$* is proved and its program is gone: remove $home/target and try again"
+    are_there "$@" || fail 1 "$* is proved and its program is gone: remove $kept and try again"
 }
 
 # reach NAME..: the crates that these stand on, with themselves
@@ -54,14 +54,31 @@ reach() {
 # how_far COUNT: says how many crates are proved, on one line that moves; to a file, a line a minute
 how_far() {
     local done minutes=$(((SECONDS - began) / 60))
-    done=$(grep -cE '^rt: [a-z0-9_]+ proved' "$kept/build.txt")
-    local line="v30: crate $((done < $1 ? done + 1 : done)) of $1, $minutes minutes so far"
+    done=$(sed -nE 's/^crate ([a-z0-9_]+): modules .*/\1/p' "$kept/build.txt" | sort -u | wc -l)
+    local line="v30: crate $((done < $1 ? done + 1 : $1)) of $1, $minutes minutes so far"
     if [ -t 2 ]; then
         printf '\r%s ' "$line" >&2
     elif [ "$minutes" -ne "$told" ]; then
         told=$minutes
         echo "$line" >&2
     fi
+}
+
+# at_once: how many crates are proved at a time: as many as there are processors, and 4 GB of memory
+at_once() {
+    awk -v most="$(nproc)" '/^MemAvailable:/ { n = int($2 / 4000000); print n < 1 ? 1 : n < most ? n : most }' /proc/meminfo
+}
+
+# prove NAME..: where many crates are still to be built, all are proved, several at a time; then rt run proves each program, over what is proved,
+# builds it, and starts it on nothing. How that ends is the program's own, so rt's line that it starts it says that it is built
+prove() {
+    local name missing=0
+    for name in $(reach "$@"); do [ -d "crates/$name/out" ] || missing=$((missing + 1)); done
+    [ "$missing" -lt 10 ] || rt all check --jobs "$(at_once)"
+    for name; do
+        (cd "crates/$name" && exec rt run)
+        grep -q "^rt: running out/$name;" "$kept/build.txt" || return 1
+    done
 }
 
 build() {
@@ -74,7 +91,7 @@ build() {
     : >"$kept/build.txt"
     # a group of its own, so that a signal can end every prover
     set -m
-    (cd "$home" && exec rt check $names) </dev/null >"$kept/build.txt" 2>&1 {lock}>&- &
+    (cd "$home" && prove $names) </dev/null >"$kept/build.txt" 2>&1 {lock}>&- &
     running=-$!
     set +m
     while kill -0 -- "${running#-}" 2>/dev/null; do

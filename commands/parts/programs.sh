@@ -1,16 +1,16 @@
-# How built programs are started. They are x86-64 programs that run with the C library they were linked for; on another processor the kit has
-# an emulator. A clone has them in target/bin, and the kit beside `rt`; a packed folder has all of it in programs/.
+# How built programs are started. In a clone each lies in the out/ of its crate, where rt left it; a packed folder has all of them in programs/,
+# beside the C library that they were linked for.
 
-# launch NAME: the words that start a program, as $launch; $programs is where it is, $tools what it runs with
+# program NAME: where it is
+program() {
+    if [ -d "$home/programs" ]; then echo "$home/programs/$1"; else echo "$home/crates/$1/out/$1"; fi
+}
+
+# launch NAME: the words that start a program, as $launch
 launch() {
-    local emulator=
-    programs=$home/programs tools=$home/programs
-    if [ ! -d "$programs" ]; then
-        local kit=${RATTLE_HOME:-$(dirname "$(dirname "$(readlink -f "$(command -v rt)")")")}
-        programs=$home/target/bin tools=$kit/on/$(uname -m)/toolchain
-    fi
-    [ -x "$tools/bin/qemu-x86_64" ] && emulator=$tools/bin/qemu-x86_64
-    launch=(${emulator:+"$emulator"} "$tools/lib/ld-linux-x86-64.so.2" --library-path "$tools/lib" "$programs/$1")
+    local lib=$home/programs/lib
+    launch=("$(program "$1")")
+    [ ! -d "$lib" ] || launch=("$lib/ld-linux-x86-64.so.2" --library-path "$lib" "${launch[@]}")
 }
 
 # run_program NAME [WORD..]
