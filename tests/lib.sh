@@ -3,6 +3,14 @@
 home=$(cd "$(dirname "${BASH_SOURCE[0]}")/.." && pwd)
 . "$home/commands/parts/programs.sh"
 
+# has_programs NAME..: ends the test where one of these programs is still to be built
+has_programs() {
+    local name
+    for name; do
+        [ -x "$(program "$name")" ] || { echo "${0##*/}: no crates/$name/out/$name: 'rt run' in crates/$name builds it" >&2; exit 2; }
+    done
+}
+
 # build_second: the second engine's programs; $judge is the one that makes, answers and compares cases
 judge=second/target/release/judge
 build_second() {
