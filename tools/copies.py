@@ -38,8 +38,10 @@ def cycles(root, file, function):
     """whether a function is proved with others or over itself: by its attribute, by a call of its own name, or by a folder +NAME"""
     text = read(f'{root}/{file}')
     body = next(text[opens:ends] for known, _, opens, ends in functions(text) if known == function)
+    # (by a path it may be another's: other::name, or a method)
+    calls = any(path == '' or path.startswith(('crate::', 'self::', 'super::')) for path in re.findall(rf'(?<![\w.:])((?:\w+::)*){function}\b', body))
     folder = '/'.join([f'{root}/proofs', *module(file)])
-    return function in dict(in_cycle(text)) or bool(re.search(rf'\b{function}\b', body)) or os.path.isdir(f'{folder}/+{function}')
+    return calls or function in dict(in_cycle(text)) or os.path.isdir(f'{folder}/+{function}')
 
 
 def has_own_proof(root, steps, function):
