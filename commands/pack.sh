@@ -8,7 +8,7 @@ names=$(all_programs)
 needs $names
 needs_reading
 
-kit=$(dirname "$(dirname "$(readlink -f "$(command -v rt)")")")
+kit=$(dirname "$(rt doc)")
 packed=$room/packed
 mkdir -p "$packed/programs/lib" "$packed/roms/classes" &&
     cp "$home/v30" "$home/README.md" "$packed/" && cp -R "$home/commands" "$packed/" &&

@@ -1,6 +1,7 @@
 # For the try of a ROM, in its folder: every tape on the proved engine and on the second one, and what was expected of it.
 
 . ../../tests/lib.sh
+has_programs console listlog listlog_old
 second=../../second
 (cd "$second" && cargo build --quiet --release --offline) || exit 2
 programs=$(cd "$second" && realpath "${CARGO_TARGET_DIR:-target}")/release
