@@ -36,12 +36,6 @@ pub turn_by_run : {plan : Plan} {next : Next} {due : Bool} {calls : List ℕ} {s
 turn_by_run {plan} {next} {due} {calls} {s} {r} {ram} {rom} {tape} {log} {ram'} {log'} e f y h =
     by_run (decided plan s e f y) (subst (λ (x : Next). Continued x plan s ram rom tape log r ram' log') e h)
 
-pub plays_over : {turns k : ℕ} {plan : Plan} {calls : List ℕ} {s r : Session} {ram rom tape log ram' log' : List ℕ} → Turns calls plan s ram rom tape log k r ram' log' → r.over ≡ true → Plays turns calls plan s ram rom tape log r ram' log'
-plays_over {turns} {k} h e = record { done = k; is = h; ends = inl e }
-
-pub plays_spent : {turns k : ℕ} {plan : Plan} {calls : List ℕ} {s r : Session} {ram rom tape log ram' log' : List ℕ} → Turns calls plan s ram rom tape log k r ram' log' → k ≡ turns → Plays turns calls plan s ram rom tape log r ram' log'
-plays_spent {turns} {k} h e = record { done = k; is = h; ends = inr e }
-
 -- ---- sessions that are played in pieces
 
 turns_join : {plan : Plan} {k : ℕ} {calls : List ℕ} {s s' : Session} {ram rom tape log ram' log' : List ℕ} {j : ℕ} {s'' : Session} {ram'' log'' : List ℕ} → Turns calls plan s ram rom tape log k s' ram' log' → Turns calls plan s' ram' rom tape log' j s'' ram'' log'' → Turns calls plan s ram rom tape log (k + j) s'' ram'' log''
