@@ -61,3 +61,9 @@ plays_more {plan} {m} {n} {calls} {s} {s'} {s''} h o g =
     ended : (s''.over ≡ true) ⊎ (g.done ≡ n) → (s''.over ≡ true) ⊎ (h.done + g.done ≡ m + n)
     ended (inl y) = inl y
     ended (inr e) = inr (let k : h.done ≡ m = spent refl o h.ends in rw (k, e))
+
+pub plays_over : {turns k : ℕ} {plan : Plan} {calls : List ℕ} {s r : Session} {ram rom tape log ram' log' : List ℕ} → Turns calls plan s ram rom tape log k r ram' log' → r.over ≡ true → Plays turns calls plan s ram rom tape log r ram' log'
+plays_over {turns} {k} h e = record { done = k; is = h; ends = inl e }
+
+pub plays_spent : {turns k : ℕ} {plan : Plan} {calls : List ℕ} {s r : Session} {ram rom tape log ram' log' : List ℕ} → Turns calls plan s ram rom tape log k r ram' log' → k ≡ turns → Plays turns calls plan s ram rom tape log r ram' log'
+plays_spent {turns} {k} h e = record { done = k; is = h; ends = inr e }
