@@ -8,7 +8,7 @@ ghost use Rattle.base_at_once.specs.AtOnce.{down_by, right_by, around, turns};
 fn at_most_16(n: u8) -> u8
     ensures { result ≡ min n 16 }
 {
-    if n < 16 { n } else { 16 }
+    n.min(16)
 }
 
 // Doubled n times, as far as the low 16 bits show.

@@ -9,6 +9,7 @@ use std::io::Read;
 pub fn read_full(input: &mut impl Read, buf: &mut [u8]) -> usize
     ensures { result ≤ length buf.new }
 {
+    // `read_exact` does not tell how far it came
     let mut done = 0;
     while done < buf.len() {
         match input.read(&mut buf[done..]) {

@@ -12,16 +12,19 @@ use Rattle.sheet.specs.declared.Operation.TheVariants.{Add, Or, Addc, Subc, And,
 use Rattle.sheet.specs.declared.Shift.{Shift}
 use Rattle.sheet.specs.declared.Shift.TheVariants.{Rol, Ror, Rolc, Rorc, Shl, Shr, Shra}
 use Rattle.sheet.specs.declared.Turn.{Turn}
-use Rattle.sheet.specs.Psw.{CY, flag_of, Effect, blank, becomes, column, only, keeps, settled}
+use Rattle.sheet.specs.Psw.{CY, OV, flag_of, Effect, blank, becomes, column, only, keeps, settled}
 use Rattle.sheet.specs.Registers.{PSW}
 use Rattle.sheet.specs.Width.{wrap_of}
-use Rattle.sheet.specs.Arithmetic.{Result, resulting, added, carry}
+use Rattle.sheet.specs.declared.Way.{Way}
+use Rattle.sheet.specs.declared.Way.TheVariants.{Addition, Subtraction}
+use Rattle.sheet.specs.Adjust.{plain}
+use Rattle.sheet.specs.Arithmetic.{Result, resulting, sum, difference, sparing_cy, added, carry}
 use Rattle.sheet.specs.Shift.{turn, one_place, rotated, shifted, turned, shift_one}
-use Rattle.sheet.specs.CardArithmetic.{card_operate}
+use Rattle.sheet.specs.CardArithmetic.{card_operate, card_sum, card_difference, increased, decreased, sparing_v, with_ac}
 use Rattle.sheet.specs.Contract.{OnFile, flagged}
 use Rattle.sheet.proofs.Lifted.{file_pure, file_seq, file_flag}
 use Rattle.sheet.proofs.PswLaws.{flag_settled}
-use Rattle.calc_8080.specs.CardOperate.{card_operated}
+use Rattle.calc_8080.specs.CardOperate.{card_operated, card_half_carry, card_counted, card_stepped}
 
 pub operate_file : (op : Operation) (a b : ℕ) (f : List ℕ) → OnFile Result (card_operate op a b) f (card_operated op a b (flag_of (get_or f PSW 0) CY)) f
 unfolding card_operate card_operated
@@ -34,9 +37,21 @@ operate_file Sub a b f = file_pure
 operate_file Xor a b f = file_pure
 operate_file Cmp a b f = file_pure
 
--- an operation that is known to be another
-pub operated_known : (a b psw : ℕ) (c : Bool) (r : Flagged) (op o : Operation) → op ≡ o → r ≡ flagged (card_operated o a b c) psw → r ≡ flagged (card_operated op a b c) psw
-operated_known a b psw c r op o e h = rw e h
+-- ---- a native sum or difference with AC as the uPD8080AF has it
+
+pub counted_is : (way : Way) (a b : ℕ) (c : Bool) (psw : ℕ)
+    → flagged (resulting false (plain way a b c).value (becomes (card_half_carry way (plain way a b c).ac)) (becomes (plain way a b c).cy) (becomes (flag_of psw OV))) psw
+    ≡ flagged (card_counted way a b c) psw
+unfolding plain card_half_carry card_counted card_sum card_difference sparing_v with_ac sum difference resulting settled flagged
+counted_is Addition a b c psw = refl
+counted_is Subtraction a b c psw = refl
+
+pub stepped_is : (way : Way) (a psw : ℕ)
+    → flagged (resulting false (plain way a 1 false).value (becomes (card_half_carry way (plain way a 1 false).ac)) (becomes (flag_of psw CY)) (becomes (flag_of psw OV))) psw
+    ≡ flagged (card_stepped way a) psw
+unfolding plain card_half_carry card_stepped increased decreased sparing_cy card_sum card_difference sparing_v with_ac sum difference resulting settled flagged
+stepped_is Addition a psw = refl
+stepped_is Subtraction a psw = refl
 
 -- a sum of words without a carry so far
 pub sum16_is : (x y : ℕ) → turn ((x + y) % 65536) (leb 65536 (x + y)) ≡ turn (added true x y false) (carry true x y false)

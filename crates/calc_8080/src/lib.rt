@@ -3,97 +3,121 @@
 #![tactic(auto)]
 
 ghost use Rattle.std.specs.Prelude.{◌≡◌, true, false};
-ghost use Rattle.sheet.specs.Psw.{AC, CY, flag_of, blank};
-ghost use Rattle.sheet.specs.Arithmetic.{added, carry};
+ghost use Rattle.sheet.specs.Psw as sheet;
+ghost use Rattle.sheet.specs.Psw.{flag_of, becomes, blank};
+ghost use Rattle.sheet.specs.Arithmetic.{resulting, added, carry};
 ghost use Rattle.sheet.specs.Shift.{turn, one_place, rotated};
-ghost use Rattle.sheet.specs.CardArithmetic.{card_sum, card_difference, masked, bitwise, increased, decreased, daa_result};
+ghost use Rattle.sheet.specs.CardArithmetic.{masked, bitwise, daa_result};
 ghost use Rattle.sheet.specs.Contract.{flagged};
-ghost use Rattle.calc_8080.specs.CardOperate.{card_operated};
+ghost use Rattle.calc_8080.specs.CardOperate.{card_operated, card_half_carry, card_counted, card_stepped};
 
-use sheet::{Flagged, Operation, Shift, Turn, Way};
+use calc_flags::{AC, CY, V, flag};
+use calc_psw::Outcome;
+use sheet::{Digits, Flagged, Operation, Shift, Turn, Way};
 
-// ADD and ADC.
-fn add(a: u16, b: u16, c: bool, psw: u16) -> Flagged
-    ensures { result ≡ flagged (card_sum a b c) psw }
+// A byte with AC and CY as given; P, S and Z are by the byte, and V stays.
+fn concluded(d: Digits, psw: u16) -> Flagged
+    ensures { result ≡ flagged (resulting false d.value (becomes d.ac) (becomes d.cy) (becomes (flag_of psw sheet.OV))) psw }
 {
-    let d = calc_decimal::plain(Way::Addition, a, b, c);
-    calc_psw::result(false, d.value, d.ac, d.cy, calc_flags::v(psw), psw)
+    let t = Outcome {
+        value: d.value,
+        ac: d.ac,
+        cy: d.cy,
+        v: flag::<V>(psw),
+    };
+    calc_psw::result(false, t, psw)
 }
 
-// SUB, SBB and CMP.
-fn subtract(a: u16, b: u16, c: bool, psw: u16) -> Flagged
-    ensures { result ≡ flagged (card_difference a b c) psw }
+// AC as the uPD8080AF has it: the carry out of bit 3, which a subtraction has where it borrows nothing.
+#[tactic(auto, unfolding(crate::specs::CardOperate::card_half_carry))]
+fn half_carry(way: Way, ac: bool) -> bool
+    ensures { result ≡ card_half_carry way ac }
 {
-    let d = calc_decimal::plain(Way::Subtraction, a, b, c);
-    calc_psw::result(false, d.value, !d.ac, d.cy, calc_flags::v(psw), psw)
+    match way {
+        Way::Addition => ac,
+        Way::Subtraction => !ac,
+    }
+}
+
+// ADD and ADC, or SUB, SBB and CMP.
+fn counted(way: Way, a: u16, b: u16, c: bool, psw: u16) -> Flagged
+    ensures { result ≡ flagged (card_counted way a b c) psw }
+{
+    let d = calc_decimal::plain(way, a, b, c);
+    let t = Digits {
+        ac: half_carry(way, d.ac),
+        ..d
+    };
+    concluded(t, psw)
 }
 
 // ANA.
+#[tactic(auto, unfolding(sheet::specs::CardArithmetic::masked, sheet::specs::Arithmetic::logical, sheet::specs::CardArithmetic::with_ac, sheet::specs::Arithmetic::resulting, sheet::specs::Psw::settled, sheet::specs::Contract::flagged))]
 fn masked(a: u16, b: u16, psw: u16) -> Flagged
     ensures { result ≡ flagged (masked a b) psw }
 {
     let half = (a / 8 % 2 == 1) | (b / 8 % 2 == 1);
-    calc_psw::result(false, a & b, half, false, calc_flags::v(psw), psw)
+    let t = Digits {
+        value: a & b,
+        ac: half,
+        cy: false,
+    };
+    concluded(t, psw)
 }
 
 // XRA and ORA, of their bitwise result x.
+#[tactic(auto, unfolding(sheet::specs::CardArithmetic::bitwise, sheet::specs::Arithmetic::logical, sheet::specs::CardArithmetic::with_ac, sheet::specs::Arithmetic::resulting, sheet::specs::Psw::settled, sheet::specs::Contract::flagged))]
 fn bitwise(x: u16, psw: u16) -> Flagged
     ensures { result ≡ flagged (bitwise x) psw }
 {
-    calc_psw::result(false, x, false, false, calc_flags::v(psw), psw)
+    let t = Digits {
+        value: x,
+        ac: false,
+        cy: false,
+    };
+    concluded(t, psw)
 }
 
 // One of the eight operations with AL.
+#[tactic(auto, unfolding(crate::specs::CardOperate::card_operated, crate::specs::CardOperate::card_counted))]
 pub fn operate(op: Operation, a: u16, b: u16, psw: u16) -> Flagged
-    ensures { result ≡ flagged (card_operated op a b (flag_of psw CY)) psw }
+    ensures { result ≡ flagged (card_operated op a b (flag_of psw sheet.CY)) psw }
 {
     match op {
-        Operation::Add => add(a, b, false, psw),
+        Operation::Add => counted(Way::Addition, a, b, false, psw),
         Operation::Or => bitwise(a | b, psw),
-        Operation::Addc => add(a, b, calc_flags::cy(psw), psw),
-        Operation::Subc => subtract(a, b, calc_flags::cy(psw), psw),
+        Operation::Addc => counted(Way::Addition, a, b, flag::<CY>(psw), psw),
+        Operation::Subc => counted(Way::Subtraction, a, b, flag::<CY>(psw), psw),
         Operation::And => masked(a, b, psw),
-        Operation::Sub => subtract(a, b, false, psw),
+        Operation::Sub => counted(Way::Subtraction, a, b, false, psw),
         Operation::Xor => bitwise(a ^ b, psw),
-        Operation::Cmp => subtract(a, b, false, psw),
+        Operation::Cmp => counted(Way::Subtraction, a, b, false, psw),
     }
 }
 
-// INR keeps CY.
-pub fn increased(a: u16, psw: u16) -> Flagged
-    ensures { result ≡ flagged (increased a) psw }
+// INR or DCR keeps CY.
+pub fn stepped(way: Way, a: u16, psw: u16) -> Flagged
+    ensures { result ≡ flagged (card_stepped way a) psw }
 {
-    let d = calc_decimal::plain(Way::Addition, a, 1, false);
-    calc_psw::result(
-        false,
-        d.value,
-        d.ac,
-        calc_flags::cy(psw),
-        calc_flags::v(psw),
-        psw,
-    )
+    let d = calc_decimal::plain(way, a, 1, false);
+    let t = Digits {
+        ac: half_carry(way, d.ac),
+        cy: flag::<CY>(psw),
+        ..d
+    };
+    concluded(t, psw)
 }
 
-// DCR keeps CY.
-pub fn decreased(a: u16, psw: u16) -> Flagged
-    ensures { result ≡ flagged (decreased a) psw }
-{
-    let d = calc_decimal::plain(Way::Subtraction, a, 1, false);
-    calc_psw::result(
-        false,
-        d.value,
-        !d.ac,
-        calc_flags::cy(psw),
-        calc_flags::v(psw),
-        psw,
-    )
-}
-
+#[tactic(auto, unfolding(sheet::specs::CardArithmetic::daa_result, sheet::specs::Adjust::packed_result, sheet::specs::CardArithmetic::with_ac, sheet::specs::Arithmetic::resulting, sheet::specs::Psw::settled, sheet::specs::Contract::flagged))]
 pub fn daa(al: u16, psw: u16) -> Flagged
-    ensures { result ≡ flagged (daa_result al (flag_of psw AC) (flag_of psw CY)) psw }
+    ensures { result ≡ flagged (daa_result al (flag_of psw sheet.AC) (flag_of psw sheet.CY)) psw }
 {
-    let d = calc_decimal::adjusted(Way::Addition, al, calc_flags::ac(psw), calc_flags::cy(psw));
-    calc_psw::result(false, d.value, 9 < al % 16, d.cy, calc_flags::v(psw), psw)
+    let d = calc_decimal::adjusted(Way::Addition, al, flag::<AC>(psw), flag::<CY>(psw));
+    let t = Digits {
+        ac: 9 < al % 16,
+        ..d
+    };
+    concluded(t, psw)
 }
 
 // RLC, RRC, RAL, RAR of x change CY alone.
@@ -101,10 +125,9 @@ pub fn rotate(kind: Shift, x: u16, cy: bool, psw: u16) -> Flagged
     ensures { result ≡ flagged (rotated (one_place kind false (turn x cy)) blank) psw }
 {
     let s = calc_shift::shift_one(kind, false, x, cy, psw);
-    let c = calc_flags::cy(s.psw);
     Flagged {
-        value: s.value,
-        psw: calc_psw::with_cy(c, psw),
+        psw: calc_psw::with_cy(flag::<CY>(s.psw), psw),
+        ..s
     }
 }
 

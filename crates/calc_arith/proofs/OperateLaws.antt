@@ -25,11 +25,3 @@ operate_ends And w a b u = ends_pure
 operate_ends Sub w a b u = ends_pure
 operate_ends Xor w a b u = ends_pure
 operate_ends Cmp w a b u = ends_pure
-
--- an operation that is known to be another
-module _ (w : Bool) (a psw : ℕ) (r : Flagged) where
-  pub operated_known : (b : ℕ) (c : Bool) (op o : Operation) → op ≡ o → r ≡ flagged (operated o w a b c) psw → r ≡ flagged (operated op w a b c) psw
-  operated_known b c op o e h = rw e h
-
-  pub unary_known : (op o : Unary) → op ≡ o → r ≡ flagged (unary o w a) psw → r ≡ flagged (unary op w a) psw
-  unary_known op o e h = rw e h

@@ -3,25 +3,20 @@
 #![tactic(auto)]
 
 ghost use Rattle.std.specs.Prelude.{◌≡◌, false};
-ghost use Rattle.sheet.specs.Psw.{CY, flag_of, becomes};
+ghost use Rattle.sheet.specs.Psw as sheet;
+ghost use Rattle.sheet.specs.Psw.{flag_of, becomes};
 ghost use Rattle.sheet.specs.Arithmetic.{resulting, sum, difference, logical, unary};
 ghost use Rattle.sheet.specs.declared.Unary.TheVariants.{Inc, Dec, Not};
 ghost use Rattle.sheet.specs.Contract.{flagged};
 ghost use Rattle.calc_arith.specs.Operate.{operated};
 
+use calc_flags::{AC, CY, flag};
+use calc_psw::Outcome;
 use calc_word::{digit, modulus, sign, wrap};
 use sheet::{Flagged, Operation, Unary};
 
-// A value with the flags that do not follow from it.
-#[derive(Clone, Copy)]
-struct Outcome {
-    value: u16,
-    ac: bool,
-    cy: bool,
-    v: bool,
-}
-
 // a + b + c.
+#[tactic(auto, unfolding(sheet::specs::Arithmetic::sum))]
 fn plus(word: bool, a: u16, b: u16, c: bool) -> Outcome
     ensures { sum word a b c ≡ resulting word result.value (becomes result.ac) (becomes result.cy) (becomes result.v) }
 {
@@ -38,6 +33,7 @@ fn plus(word: bool, a: u16, b: u16, c: bool) -> Outcome
 }
 
 // a - b - c.
+#[tactic(auto, unfolding(sheet::specs::Arithmetic::difference))]
 fn minus(word: bool, a: u16, b: u16, c: bool) -> Outcome
     ensures { difference word a b c ≡ resulting word result.value (becomes result.ac) (becomes result.cy) (becomes result.v) }
 {
@@ -57,34 +53,40 @@ fn minus(word: bool, a: u16, b: u16, c: bool) -> Outcome
 fn add(word: bool, a: u16, b: u16, c: bool, psw: u16) -> Flagged
     ensures { result ≡ flagged (sum word a b c) psw }
 {
-    let t = plus(word, a, b, c);
-    calc_psw::result(word, t.value, t.ac, t.cy, t.v, psw)
+    calc_psw::result(word, plus(word, a, b, c), psw)
 }
 
 // SUB, SUBC and CMP.
 pub fn sub(word: bool, a: u16, b: u16, c: bool, psw: u16) -> Flagged
     ensures { result ≡ flagged (difference word a b c) psw }
 {
-    let t = minus(word, a, b, c);
-    calc_psw::result(word, t.value, t.ac, t.cy, t.v, psw)
+    calc_psw::result(word, minus(word, a, b, c), psw)
 }
 
 // AND, OR, XOR and TEST, of their bitwise result x.
+#[tactic(auto, unfolding(sheet::specs::Arithmetic::logical, sheet::specs::Arithmetic::resulting, sheet::specs::Psw::settled, sheet::specs::Contract::flagged))]
 pub fn logic(word: bool, x: u16, psw: u16) -> Flagged
     ensures { result ≡ flagged (logical word x) psw }
 {
-    calc_psw::result(word, x, calc_flags::ac(psw), false, false, psw)
+    let t = Outcome {
+        value: x,
+        ac: flag::<AC>(psw),
+        cy: false,
+        v: false,
+    };
+    calc_psw::result(word, t, psw)
 }
 
 // One of the eight operations with two operands.
+#[tactic(auto, unfolding(crate::specs::Operate::operated))]
 pub fn operate(op: Operation, word: bool, a: u16, b: u16, psw: u16) -> Flagged
-    ensures { result ≡ flagged (operated op word a b (flag_of psw CY)) psw }
+    ensures { result ≡ flagged (operated op word a b (flag_of psw sheet.CY)) psw }
 {
     match op {
         Operation::Add => add(word, a, b, false, psw),
         Operation::Or => logic(word, a | b, psw),
-        Operation::Addc => add(word, a, b, calc_flags::cy(psw), psw),
-        Operation::Subc => sub(word, a, b, calc_flags::cy(psw), psw),
+        Operation::Addc => add(word, a, b, flag::<CY>(psw), psw),
+        Operation::Subc => sub(word, a, b, flag::<CY>(psw), psw),
         Operation::And => logic(word, a & b, psw),
         Operation::Sub => sub(word, a, b, false, psw),
         Operation::Xor => logic(word, a ^ b, psw),
@@ -93,22 +95,31 @@ pub fn operate(op: Operation, word: bool, a: u16, b: u16, psw: u16) -> Flagged
 }
 
 // INC keeps CY.
+#[tactic(auto, unfolding(sheet::specs::Arithmetic::unary, sheet::specs::Arithmetic::sparing_cy, sheet::specs::Arithmetic::resulting, sheet::specs::Psw::settled, sheet::specs::Contract::flagged))]
 fn inc(word: bool, a: u16, psw: u16) -> Flagged
     ensures { result ≡ flagged (unary Inc word a) psw }
 {
-    let t = plus(word, a, 1, false);
-    calc_psw::result(word, t.value, t.ac, calc_flags::cy(psw), t.v, psw)
+    let t = Outcome {
+        cy: flag::<CY>(psw),
+        ..plus(word, a, 1, false)
+    };
+    calc_psw::result(word, t, psw)
 }
 
 // DEC keeps CY.
+#[tactic(auto, unfolding(sheet::specs::Arithmetic::unary, sheet::specs::Arithmetic::sparing_cy, sheet::specs::Arithmetic::resulting, sheet::specs::Psw::settled, sheet::specs::Contract::flagged))]
 fn dec(word: bool, a: u16, psw: u16) -> Flagged
     ensures { result ≡ flagged (unary Dec word a) psw }
 {
-    let t = minus(word, a, 1, false);
-    calc_psw::result(word, t.value, t.ac, calc_flags::cy(psw), t.v, psw)
+    let t = Outcome {
+        cy: flag::<CY>(psw),
+        ..minus(word, a, 1, false)
+    };
+    calc_psw::result(word, t, psw)
 }
 
 // NOT keeps all flags.
+#[tactic(auto, unfolding(sheet::specs::Arithmetic::unary, sheet::specs::Arithmetic::complement, sheet::specs::Psw::settled, sheet::specs::Contract::flagged))]
 fn invert(word: bool, a: u16, psw: u16) -> Flagged
     ensures { result ≡ flagged (unary Not word a) psw }
 {
@@ -119,6 +130,7 @@ fn invert(word: bool, a: u16, psw: u16) -> Flagged
 }
 
 // One of the four operations with one operand.
+#[tactic(auto, unfolding(sheet::specs::Arithmetic::unary))]
 pub fn one(op: Unary, word: bool, a: u16, psw: u16) -> Flagged
     ensures { result ≡ flagged (unary op word a) psw }
 {

@@ -5,9 +5,11 @@ ghost use Rattle.std.specs.Prelude.{◌≡◌, ◌≤◌, ◌^◌};
 ghost use Rattle.sheet.specs.Psw.{keeps, column, settled};
 ghost use Rattle.sheet.specs.Bits.{bit_number, bit_at, with_bit, bit_column};
 
+use calc_flags::Flags;
 use calc_word::only;
 
 // The low 3 bits of n for a byte, the low 4 for a word.
+#[tactic(auto, unfolding(sheet::specs::Bits::bit_number))]
 fn number(word: bool, n: u8) -> u8
     ensures { (result ≡ bit_number word n) × (result ≤ 15) }
 {
@@ -22,6 +24,7 @@ fn weight(word: bool, n: u8) -> u16
 }
 
 // Bit n of x.
+#[tactic(auto, unfolding(sheet::specs::Bits::bit_at))]
 pub fn bit_at(word: bool, x: u16, n: u8) -> bool
     ensures { result ≡ bit_at x (bit_number word n) }
 {
@@ -40,9 +43,15 @@ pub fn with_bit(word: bool, x: u16, n: u8, b: bool) -> u16
 }
 
 // PSW after TEST1.
+#[tactic(auto, unfolding(sheet::specs::Bits::bit_column, sheet::specs::Psw::settled))]
 pub fn after_test(word: bool, x: u16, n: u8, psw: u16) -> u16
     ensures { result ≡ settled keeps (column (bit_column x (bit_number word n))) psw }
 {
-    let f = calc_flags::unpack(psw);
-    calc_psw::affect(f.ac, false, false, f.p, f.s, !bit_at(word, x, n), psw)
+    let f = Flags {
+        cy: false,
+        v: false,
+        z: !bit_at(word, x, n),
+        ..Flags::from(psw)
+    };
+    calc_psw::affect(f, psw)
 }

@@ -3,22 +3,33 @@
 
 ghost use Rattle.std.specs.Prelude.{◌≡◌, true, ◌+◌, ◌*◌, ◌/◌, ◌%◌, ◌≤◌};
 ghost use Rattle.sheet.specs.Width.{extend, pick, sign_of};
-ghost use Rattle.sheet.specs.Psw.{AC, CY, flag_of};
+ghost use Rattle.sheet.specs.Psw as sheet;
+ghost use Rattle.sheet.specs.Psw.{flag_of};
 ghost use Rattle.sheet.specs.Contract.{flagged};
 ghost use Rattle.sheet.specs.Adjust.{digits_of, packed_result, unpacked, unpacked_result};
 ghost use Rattle.sheet.specs.Convert.{converted};
 
+use calc_flags::{AC, CY, Flags, V, flag};
+use calc_psw::Outcome;
 use sheet::{Flagged, Way};
 
 // ADJ4A or ADJ4S of AL.
+#[tactic(auto, unfolding(sheet::specs::Psw::settled, sheet::specs::Arithmetic::resulting, sheet::specs::Contract::flagged, sheet::specs::Adjust::packed_result))]
 pub fn adj4(way: Way, al: u16, psw: u16) -> Flagged
-    ensures { result ≡ flagged (packed_result way (digits_of al (flag_of psw AC) (flag_of psw CY))) psw }
+    ensures { result ≡ flagged (packed_result way (digits_of al (flag_of psw sheet.AC) (flag_of psw sheet.CY))) psw }
 {
-    let d = calc_decimal::adjusted(way, al, calc_flags::ac(psw), calc_flags::cy(psw));
-    calc_psw::result(false, d.value, d.ac, d.cy, calc_flags::v(psw), psw)
+    let d = calc_decimal::adjusted(way, al, flag::<AC>(psw), flag::<CY>(psw));
+    let t = Outcome {
+        value: d.value,
+        ac: d.ac,
+        cy: d.cy,
+        v: flag::<V>(psw),
+    };
+    calc_psw::result(false, t, psw)
 }
 
 // AW once a digit is adjusted.
+#[tactic(auto, unfolding(sheet::specs::Adjust::unpacked))]
 fn unpacked(way: Way, low: bool, aw: u16) -> u16
     ensures { result ≡ unpacked way low aw }
 {
@@ -28,27 +39,37 @@ fn unpacked(way: Way, low: bool, aw: u16) -> u16
 }
 
 // ADJBA or ADJBS of AW.
+#[tactic(auto, unfolding(sheet::specs::Psw::settled, sheet::specs::Contract::flagged, sheet::specs::Adjust::unpacked_result))]
 pub fn adjb(way: Way, aw: u16, psw: u16) -> Flagged
-    ensures { result ≡ flagged (unpacked_result way aw (flag_of psw AC)) psw }
+    ensures { result ≡ flagged (unpacked_result way aw (flag_of psw sheet.AC)) psw }
 {
-    let low = (9 < aw % 16) | calc_flags::ac(psw);
-    let f = calc_flags::unpack(psw);
+    let low = (9 < aw % 16) | flag::<AC>(psw);
+    let f = Flags {
+        ac: low,
+        cy: low,
+        ..Flags::from(psw)
+    };
     Flagged {
         value: unpacked(way, low, aw),
-        psw: calc_psw::affect(low, low, f.v, f.p, f.s, f.z, psw),
+        psw: calc_psw::affect(f, psw),
     }
 }
 
 // AH and AL, with P, S and Z by AL.
+#[tactic(auto, unfolding(sheet::specs::Psw::settled, sheet::specs::Arithmetic::resulting, sheet::specs::Contract::flagged, sheet::specs::Convert::converted))]
 fn converted(ah: u16, al: u16, psw: u16) -> Flagged
     requires { (ah ≤ 255) × (al ≤ 255) }
     ensures { result ≡ flagged (converted ah al) psw }
 {
-    let f = calc_flags::unpack(psw);
-    let r = calc_psw::result(false, al, f.ac, f.cy, f.v, psw);
+    let t = Outcome {
+        value: al,
+        ac: flag::<AC>(psw),
+        cy: flag::<CY>(psw),
+        v: flag::<V>(psw),
+    };
     Flagged {
         value: ah * 256 + al,
-        psw: r.psw,
+        ..calc_psw::result(false, t, psw)
     }
 }
 
@@ -74,6 +95,7 @@ pub fn cvtbw(aw: u16) -> u16
 }
 
 // DW after CVTWL.
+#[tactic(auto, unfolding(sheet::specs::Width::sign_of))]
 pub fn cvtwl(aw: u16) -> u16
     ensures { result ≡ pick (sign_of true aw) 65535 0 }
 {

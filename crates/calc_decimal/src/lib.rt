@@ -10,6 +10,7 @@ use calc_word::{digit, only};
 use sheet::{Digits, Way};
 
 // a plus b and a carry, or a minus b and a borrow, with AC and CY of that. The bound serves the sums that the value goes into.
+#[tactic(auto, unfolding(sheet::specs::Adjust::plain, sheet::specs::Width::wrap_of))]
 pub fn plain(way: Way, a: u16, b: u16, c: bool) -> Digits
     ensures { (result ≡ plain way a b c) × (result.value ≤ 255) }
 {
@@ -37,6 +38,7 @@ pub fn plain(way: Way, a: u16, b: u16, c: bool) -> Digits
 }
 
 // A byte after the two steps of an adjustment.
+#[tactic(auto, unfolding(sheet::specs::Adjust::low_adjusted, sheet::specs::Adjust::high_adjusted, sheet::specs::Adjust::adjusted))]
 pub fn adjusted(way: Way, x: u16, ac: bool, cy: bool) -> Digits
     ensures { result ≡ adjusted way (digits_of x ac cy) }
 {
@@ -45,13 +47,14 @@ pub fn adjusted(way: Way, x: u16, ac: bool, cy: bool) -> Digits
     let high = (0x9f < y.value) | (cy | y.cy);
     let z = plain(way, y.value, only(high, 0x60), false);
     Digits {
-        value: z.value,
         ac: low,
         cy: high,
+        ..z
     }
 }
 
 // One byte of ADD4S, or of SUB4S and CMP4S.
+#[tactic(auto, unfolding(sheet::specs::Decimal::digits))]
 pub fn digits(way: Way, a: u16, b: u16, c: bool) -> Digits
     ensures { result ≡ digits way a b c }
 {

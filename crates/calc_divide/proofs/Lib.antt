@@ -1,3 +1,2 @@
-pub mod QuotientReads
 pub mod QuotientLaws
 pub mod QuotientGiven

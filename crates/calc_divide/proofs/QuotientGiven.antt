@@ -8,9 +8,9 @@ use lib.IntN.{ℤ, nat_abs}
 use lib.Signed.{quot_z, rem_z}
 use borrow.Author.Tests.{eqb-true, lt-ltb, le-ltb}
 use Rattle.sheet.specs.Width.{mod_of, half_of, wrap_of, signed_of}
-use Rattle.sheet.specs.declared.Divided.{Divided}
-use Rattle.sheet.specs.declared.Divided.TheVariants.{Quotient, Trap}
-use Rattle.sheet.specs.Multiply.{bits_of, quoted, signed_quotient, span_of, unsigned_quotient}
+use Rattle.std.specs.Prelude.{Option, None}
+use Rattle.sheet.specs.declared.Quotient.{Quotient}
+use Rattle.sheet.specs.Multiply.{bits_of, quoted, signed_quotient, span_of, unsigned_quotient, gives}
 use Rattle.calc_divide.proofs.QuotientLaws.{stands_within, Exact, signed_quotient_exact, unsigned_quotient_exact}
 
 -- a number is 0 or is not
@@ -22,10 +22,10 @@ divisor k h = go (eqb k 0) refl
     go false e = refl
 
 -- a quotient and a remainder that stand, and what is true of them
-pub record Given (d : Divided) (Q : ℕ → ℕ → Type 0) : Type 0 where
+pub record Given (d : Option Quotient) (Q : ℕ → ℕ → Type 0) : Type 0 where
   pub quotient : ℕ
   pub remainder : ℕ
-  pub is : d ≡ Quotient quotient remainder
+  pub is : d ≡ gives quotient remainder
   pub true_of : Q quotient remainder
 
 module _ (w : Bool) (a b : ℕ) where
@@ -39,19 +39,19 @@ module _ (w : Bool) (a b : ℕ) where
   pub signed_quotient_given : wrap_of w b ≢ 0 → nat_abs (quot_z n d) < half_of w → Given (signed_quotient w a b) (Exact w n d)
   unfolding signed_quotient quoted
   signed_quotient_given h l =
-      let e : signed_quotient w a b ≡ Quotient (bits_of w (quot_z n d)) (bits_of w (rem_z n d)) =
+      let e : signed_quotient w a b ≡ gives (bits_of w (quot_z n d)) (bits_of w (rem_z n d)) =
       rw (divisor (wrap_of w b) h, stands_within w (quot_z n d), lt-ltb (nat_abs (quot_z n d)) (half_of w) l) in
       record { quotient = bits_of w (quot_z n d); remainder = bits_of w (rem_z n d); is = e; true_of = signed_quotient_exact w a b _ _ e }
 
-  pub signed_by_zero : wrap_of w b ≡ 0 → signed_quotient w a b ≡ Trap
+  pub signed_by_zero : wrap_of w b ≡ 0 → signed_quotient w a b ≡ None
   unfolding signed_quotient
   signed_by_zero e = rw e
 
-  pub signed_beyond : half_of w ≤ nat_abs (quot_z n d) → signed_quotient w a b ≡ Trap
+  pub signed_beyond : half_of w ≤ nat_abs (quot_z n d) → signed_quotient w a b ≡ None
   unfolding signed_quotient quoted
   signed_beyond l = go (eqb (wrap_of w b) 0) refl
     where
-      go : (t : Bool) → eqb (wrap_of w b) 0 ≡ t → signed_quotient w a b ≡ Trap
+      go : (t : Bool) → eqb (wrap_of w b) 0 ≡ t → signed_quotient w a b ≡ None
       go true e = rw e
       go false e = rw (e, stands_within w (quot_z n d), le-ltb (nat_abs (quot_z n d)) (half_of w) l)
 
@@ -60,17 +60,17 @@ module _ (w : Bool) (a b : ℕ) where
       → Given (unsigned_quotient w a b) (λ q r. (q * wrap_of w b + r ≡ a) × (r < wrap_of w b) × (q < mod_of w))
   unfolding unsigned_quotient
   unsigned_quotient_given h l =
-      let e : unsigned_quotient w a b ≡ Quotient (a / wrap_of w b) (a % wrap_of w b) = rw (divisor (wrap_of w b) h, lt-ltb (a / wrap_of w b) (mod_of w) l) in
+      let e : unsigned_quotient w a b ≡ gives (a / wrap_of w b) (a % wrap_of w b) = rw (divisor (wrap_of w b) h, lt-ltb (a / wrap_of w b) (mod_of w) l) in
       record { quotient = a / wrap_of w b; remainder = a % wrap_of w b; is = e; true_of = unsigned_quotient_exact w a b _ _ e }
 
-  pub unsigned_by_zero : wrap_of w b ≡ 0 → unsigned_quotient w a b ≡ Trap
+  pub unsigned_by_zero : wrap_of w b ≡ 0 → unsigned_quotient w a b ≡ None
   unfolding unsigned_quotient
   unsigned_by_zero e = rw e
 
-  pub unsigned_beyond : mod_of w ≤ a / wrap_of w b → unsigned_quotient w a b ≡ Trap
+  pub unsigned_beyond : mod_of w ≤ a / wrap_of w b → unsigned_quotient w a b ≡ None
   unfolding unsigned_quotient
   unsigned_beyond l = go (eqb (wrap_of w b) 0) refl
     where
-      go : (t : Bool) → eqb (wrap_of w b) 0 ≡ t → unsigned_quotient w a b ≡ Trap
+      go : (t : Bool) → eqb (wrap_of w b) 0 ≡ t → unsigned_quotient w a b ≡ None
       go true e = rw e
       go false e = rw (e, le-ltb (a / wrap_of w b) (mod_of w) l)

@@ -10,11 +10,21 @@ use lib.Dec.{eqb, ltb}
 use lib.IntN.{ℤ, pos, negsuc, neg_ℤ, nat_abs, ◌+ℤ◌, ◌-ℤ◌, ◌*ℤ◌, neg_ℤ-+ℤ}
 use lib.Signed.{mag, quot_z, rem_z, lt_z, le_z}
 use Rattle.sheet.specs.Width.{mod_of, half_of, wrap_of, signed_of}
-use Rattle.sheet.specs.declared.Divided.TheVariants.{Quotient}
-use Rattle.sheet.specs.Multiply.{bits_of, quoted, signed_quotient, span_of, stands, unsigned_quotient}
+use Rattle.sheet.specs.Multiply.{bits_of, quoted, signed_quotient, span_of, stands, unsigned_quotient, gives}
 use Rattle.calc_word.proofs.WidthLaws.{mod_half, wrap_lt}
 use Rattle.calc_signed.proofs.SignedLaws.{signed_nz}
 use Rattle.calc_signed.proofs.ReadBack.{half_pos, below_zero, read_mag, bits_read}
+use Rattle.std.specs.Prelude.{Option, Some, None}
+use Rattle.sheet.specs.declared.Quotient.{Quotient}
+
+-- of a division that does not trap: its quotient, and its remainder
+abbrev pub quotient_in : Option Quotient → ℕ
+quotient_in (Some d) = d.quotient
+quotient_in None = 0
+
+abbrev pub remainder_in : Option Quotient → ℕ
+remainder_in (Some d) = d.remainder
+remainder_in None = 0
 
 -- ---- the integers: division toward zero
 
@@ -108,15 +118,15 @@ module _ (w : Bool) (n d : ℤ) (nz : d ≡ pos 0 → ⊥) (small : nat_abs d �
         limit = rw q l;
       }
 
-  quoted_exact : (q r : ℕ) → quoted w n d ≡ Quotient q r → Exact w n d q r
+  quoted_exact : (q r : ℕ) → quoted w n d ≡ gives q r → Exact w n d q r
   unfolding quoted
   quoted_exact q r = go (stands w (quot_z n d)) refl
     where
-      go : (t : Bool) → stands w (quot_z n d) ≡ t → quoted w n d ≡ Quotient q r → Exact w n d q r
+      go : (t : Bool) → stands w (quot_z n d) ≡ t → quoted w n d ≡ gives q r → Exact w n d q r
       go true e p =
           let o = rw e at p in
-          let eq : bits_of w (quot_z n d) ≡ q = cc in
-          let er : bits_of w (rem_z n d) ≡ r = cc in
+          let eq : bits_of w (quot_z n d) ≡ q = ap quotient_in o in
+          let er : bits_of w (rem_z n d) ≡ r = ap remainder_in o in
           rw (← eq, ← er) (exact (ltb-true (nat_abs (quot_z n d)) (half_of w) (sym (stands_within w (quot_z n d)) ∙ e)))
       go false e p =
           let o = rw e at p in
@@ -125,7 +135,7 @@ module _ (w : Bool) (n d : ℤ) (nz : d ≡ pos 0 → ⊥) (small : nat_abs d �
 
 module _ (w : Bool) (a b q r : ℕ) where
   -- DIV
-  pub signed_quotient_exact : signed_quotient w a b ≡ Quotient q r
+  pub signed_quotient_exact : signed_quotient w a b ≡ gives q r
       → Exact w (signed_of (span_of w) a) (signed_of (half_of w) (wrap_of w b)) q r
   unfolding signed_quotient
   signed_quotient_exact = go (eqb (wrap_of w b) 0) refl
@@ -133,7 +143,7 @@ module _ (w : Bool) (a b q r : ℕ) where
       k : wrap_of w b < 2 * half_of w
       k = rw (mod_half w) at (wrap_lt w b)
 
-      go : (t : Bool) → eqb (wrap_of w b) 0 ≡ t → signed_quotient w a b ≡ Quotient q r
+      go : (t : Bool) → eqb (wrap_of w b) 0 ≡ t → signed_quotient w a b ≡ gives q r
           → Exact w (signed_of (span_of w) a) (signed_of (half_of w) (wrap_of w b)) q r
       go true e p =
           let o = rw e at p in
@@ -145,11 +155,11 @@ module _ (w : Bool) (a b q r : ℕ) where
           (omega (arith, abs_mag d, read_mag (half_of w) (wrap_of w b) k)) q r (rw e at p)
 
   -- DIVU
-  pub unsigned_quotient_exact : unsigned_quotient w a b ≡ Quotient q r → (q * wrap_of w b + r ≡ a) × (r < wrap_of w b) × (q < mod_of w)
+  pub unsigned_quotient_exact : unsigned_quotient w a b ≡ gives q r → (q * wrap_of w b + r ≡ a) × (r < wrap_of w b) × (q < mod_of w)
   unfolding unsigned_quotient
   unsigned_quotient_exact = go (eqb (wrap_of w b) 0) (ltb (a / wrap_of w b) (mod_of w)) refl refl
     where
-      go : (t u : Bool) → eqb (wrap_of w b) 0 ≡ t → ltb (a / wrap_of w b) (mod_of w) ≡ u → unsigned_quotient w a b ≡ Quotient q r
+      go : (t u : Bool) → eqb (wrap_of w b) 0 ≡ t → ltb (a / wrap_of w b) (mod_of w) ≡ u → unsigned_quotient w a b ≡ gives q r
           → (q * wrap_of w b + r ≡ a) × (r < wrap_of w b) × (q < mod_of w)
       go true u e f p =
           let o = rw e at p in
@@ -161,7 +171,7 @@ module _ (w : Bool) (a b q r : ℕ) where
           absurd (omega arith)
       go false true e f p =
           let o = rw (e, f) at p in
-          let eq : a / wrap_of w b ≡ q = cc in
-          let er : a % wrap_of w b ≡ r = cc in
+          let eq : a / wrap_of w b ≡ q = ap quotient_in o in
+          let er : a % wrap_of w b ≡ r = ap remainder_in o in
           let nz = eqb-false (wrap_of w b) 0 e in
           rw (← eq, ← er) (div-add-mod' a (wrap_of w b), mod-lt a (omega arith), ltb-true (a / wrap_of w b) (mod_of w) f)

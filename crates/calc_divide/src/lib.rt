@@ -6,23 +6,24 @@ ghost use Rattle.std.specs.Int.Signed.{mag, quot_z, rem_z};
 ghost use Rattle.sheet.specs.Multiply.{bits_of, quoted, signed_quotient, span_of, stands, unsigned_quotient};
 
 use calc_signed::{low_bits, signed};
-use sheet::Divided;
+use sheet::Quotient;
 
 // DIVU.
-pub fn unsigned_quotient(word: bool, a: u32, b: u16) -> Divided
+#[tactic(auto, unfolding(sheet::specs::Multiply::unsigned_quotient))]
+pub fn unsigned_quotient(word: bool, a: u32, b: u16) -> Option<Quotient>
     ensures { result ≡ unsigned_quotient word a b }
 {
     let k = calc_word::wrap(word, b as u32) as u32;
     if k == 0 {
-        return Divided::Trap;
+        return None;
     }
     if a / k < calc_word::modulus(word) {
-        Divided::Quotient {
+        Some(Quotient {
             quotient: (a / k) as u16,
             remainder: (a % k) as u16,
-        }
+        })
     } else {
-        Divided::Trap
+        None
     }
 }
 
@@ -43,6 +44,7 @@ fn remainder(n: i64, d: i64) -> i64
 }
 
 // The quotients that stand: -8000h does not.
+#[tactic(auto, unfolding(sheet::specs::Multiply::stands))]
 fn stands(word: bool, q: i64) -> bool
     ensures { result ≡ stands word q }
 {
@@ -51,6 +53,7 @@ fn stands(word: bool, q: i64) -> bool
 }
 
 // The bits of a number at the width.
+#[tactic(auto, unfolding(sheet::specs::Multiply::bits_of))]
 fn bits(word: bool, z: i64) -> u16
     ensures { result ≡ bits_of word z }
 {
@@ -58,18 +61,19 @@ fn bits(word: bool, z: i64) -> u16
 }
 
 // The quotient, if it stands, and the remainder.
-fn quoted(word: bool, n: i64, d: i64) -> Divided
+#[tactic(auto, unfolding(sheet::specs::Multiply::quoted))]
+fn quoted(word: bool, n: i64, d: i64) -> Option<Quotient>
     requires { (mag n < 1099511627776) × (d ≡ pos 0 → ⊥) }
     ensures { result ≡ quoted word n d }
 {
     let q = quotient(n, d);
     if stands(word, q) {
-        Divided::Quotient {
+        Some(Quotient {
             quotient: bits(word, q),
             remainder: bits(word, remainder(n, d)),
-        }
+        })
     } else {
-        Divided::Trap
+        None
     }
 }
 
@@ -81,12 +85,12 @@ fn span(word: bool) -> u32
 }
 
 // DIV.
-pub fn signed_quotient(word: bool, a: u32, b: u16) -> Divided
+pub fn signed_quotient(word: bool, a: u32, b: u16) -> Option<Quotient>
     ensures { result ≡ signed_quotient word a b }
 {
     let k = calc_word::wrap(word, b as u32);
     if k == 0 {
-        return Divided::Trap;
+        return None;
     }
     let d = signed(calc_word::half(word) as u32, k as u32);
     quoted(word, signed(span(word), a), d)

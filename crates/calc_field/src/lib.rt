@@ -23,20 +23,6 @@ fn put(x: u16, at: u64, n: u64, v: u16) -> u16
     (x as u64 / top * top + v as u64 % len * low + x as u64 % low) as u16
 }
 
-// The smaller of two numbers.
-fn least(a: u64, b: u64) -> u64
-    ensures { result ≡ min a b }
-{
-    if a <= b { a } else { b }
-}
-
-// How far a field goes beyond its first word.
-fn beyond(end: u64) -> u64
-    ensures { result ≡ end - 16 }
-{
-    if end <= 16 { 0 } else { end - 16 }
-}
-
 // The bits of v from bit k on.
 fn above(v: u16, k: u64) -> u16
     requires { k ≤ 16 }
@@ -50,7 +36,8 @@ pub fn first(x: u16, offset: u16, code: u16, v: u16) -> u16
     ensures { result ≡ replaced x (offset % 16) (min (code % 16 + 1) (16 - offset % 16)) v }
 {
     let at = offset as u64 % 16;
-    put(x, at, least(code as u64 % 16 + 1, 16 - at), v)
+    let fits = (code as u64 % 16 + 1).min(16 - at);
+    put(x, at, fits, v)
 }
 
 // Its second word, which takes the rest.
@@ -58,10 +45,12 @@ pub fn second(x: u16, offset: u16, code: u16, v: u16) -> u16
     ensures { result ≡ replaced x 0 (offset % 16 + (code % 16 + 1) - 16) (v / 2 ^ (16 - offset % 16)) }
 {
     let at = offset as u64 % 16;
-    put(x, 0, beyond(at + (code as u64 % 16 + 1)), above(v, 16 - at))
+    let rest = (at + (code as u64 % 16 + 1)).saturating_sub(16);
+    put(x, 0, rest, above(v, 16 - at))
 }
 
 // The field that EXT takes out of one word or two.
+#[tactic(auto, unfolding(sheet::specs::Fields::field_of))]
 pub fn taken(x: u32, offset: u16, code: u16) -> u16
     ensures { result ≡ field_of x (offset % 16) (code % 16 + 1) }
 {

@@ -1,8 +1,8 @@
-// PSW in code: its flags one by one and together, MD, and its fixed bits. No function here has a precondition.
+// PSW in code: its flags one by one and together, MD, and its fixed bits. No function here has a precondition on PSW.
 #![tactic(auto)]
 
-ghost use Rattle.std.specs.Prelude.{◌≡◌};
-ghost use Rattle.sheet.specs.Psw.{CY, P, AC, Z, S, BRK, IE, DIR, OV, flag_of, native_of, pack, fixed_of};
+ghost use Rattle.std.specs.Prelude.{◌≡◌, ◌<◌};
+ghost use Rattle.sheet.specs.Psw.{at, pack, fixed_of};
 ghost use Rattle.calc_flags.specs.Flags.{held, unpacked};
 
 use calc_word::digit;
@@ -20,104 +20,79 @@ pub struct Flags {
     pub v: bool,
 }
 
-pub fn cy(psw: u16) -> bool
-    ensures { result ≡ flag_of psw CY }
+// The flags' bits as powers of two, and MD's.
+pub const CY: u16 = 1;
+
+pub const P: u16 = 4;
+
+pub const AC: u16 = 16;
+
+pub const Z: u16 = 64;
+
+pub const S: u16 = 128;
+
+pub const BRK: u16 = 256;
+
+pub const IE: u16 = 512;
+
+pub const DIR: u16 = 1024;
+
+pub const V: u16 = 2048;
+
+pub const MD: u16 = 32768;
+
+// Bits 1 and 12 to 14 are always one.
+const FIXED: u16 = 0x7002;
+
+// The flag, or MD, whose bit is this power of two.
+pub fn flag<const WEIGHT: u16>(psw: u16) -> bool
+    requires { 0 < WEIGHT }
+    ensures { result ≡ at psw WEIGHT }
 {
-    psw / 1 % 2 == 1
+    psw / WEIGHT % 2 == 1
 }
 
-pub fn p(psw: u16) -> bool
-    ensures { result ≡ flag_of psw P }
-{
-    psw / 4 % 2 == 1
-}
+// All nine of a PSW, whatever its fixed bits are.
+impl From<u16> for Flags {
+    ghost from_gives = { λ psw f. f ≡ unpacked psw };
 
-pub fn ac(psw: u16) -> bool
-    ensures { result ≡ flag_of psw AC }
-{
-    psw / 16 % 2 == 1
-}
-
-pub fn z(psw: u16) -> bool
-    ensures { result ≡ flag_of psw Z }
-{
-    psw / 64 % 2 == 1
-}
-
-pub fn s(psw: u16) -> bool
-    ensures { result ≡ flag_of psw S }
-{
-    psw / 128 % 2 == 1
-}
-
-pub fn brk(psw: u16) -> bool
-    ensures { result ≡ flag_of psw BRK }
-{
-    psw / 256 % 2 == 1
-}
-
-pub fn ie(psw: u16) -> bool
-    ensures { result ≡ flag_of psw IE }
-{
-    psw / 512 % 2 == 1
-}
-
-pub fn dir(psw: u16) -> bool
-    ensures { result ≡ flag_of psw DIR }
-{
-    psw / 1024 % 2 == 1
-}
-
-pub fn v(psw: u16) -> bool
-    ensures { result ≡ flag_of psw OV }
-{
-    psw / 2048 % 2 == 1
-}
-
-// MD.
-pub fn native(psw: u16) -> bool
-    ensures { result ≡ native_of psw }
-{
-    psw / 32768 % 2 == 1
-}
-
-// All nine, whatever the fixed bits are.
-pub fn unpack(psw: u16) -> Flags
-    ensures { result ≡ unpacked psw }
-{
-    Flags {
-        cy: cy(psw),
-        p: p(psw),
-        ac: ac(psw),
-        z: z(psw),
-        s: s(psw),
-        brk: brk(psw),
-        ie: ie(psw),
-        dir: dir(psw),
-        v: v(psw),
+    fn from(psw: u16) -> Flags {
+        Flags {
+            cy: flag::<CY>(psw),
+            p: flag::<P>(psw),
+            ac: flag::<AC>(psw),
+            z: flag::<Z>(psw),
+            s: flag::<S>(psw),
+            brk: flag::<BRK>(psw),
+            ie: flag::<IE>(psw),
+            dir: flag::<DIR>(psw),
+            v: flag::<V>(psw),
+        }
     }
 }
 
-// PSW of MD and the flags, with its fixed bits.
-pub fn pack(md: bool, f: Flags) -> u16
-    ensures { result ≡ pack md (held f) }
-{
-    28674
-        + 32768 * digit(md)
-        + 1 * digit(f.cy)
-        + 4 * digit(f.p)
-        + 16 * digit(f.ac)
-        + 64 * digit(f.z)
-        + 128 * digit(f.s)
-        + 256 * digit(f.brk)
-        + 512 * digit(f.ie)
-        + 1024 * digit(f.dir)
-        + 2048 * digit(f.v)
+impl Flags {
+    // PSW of MD and the flags, with its fixed bits.
+    pub fn pack(self, md: bool) -> u16
+        ensures { result ≡ pack md (held self) }
+    {
+        FIXED
+            + MD * digit(md)
+            + CY * digit(self.cy)
+            + P * digit(self.p)
+            + AC * digit(self.ac)
+            + Z * digit(self.z)
+            + S * digit(self.s)
+            + BRK * digit(self.brk)
+            + IE * digit(self.ie)
+            + DIR * digit(self.dir)
+            + V * digit(self.v)
+    }
 }
 
 // The fixed bits are as they must be.
 pub fn fixed(psw: u16) -> bool
     ensures { result ≡ fixed_of psw }
 {
-    psw == pack(native(psw), unpack(psw))
+    psw == Flags::from(psw).pack(flag::<MD>(psw))
 }

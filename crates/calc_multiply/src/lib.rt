@@ -6,17 +6,19 @@ ghost use Rattle.std.specs.Int.Signed.{mag};
 ghost use Rattle.sheet.specs.Psw.{column, keeps, settled};
 ghost use Rattle.sheet.specs.Multiply.{fits_signed, product_column, signed_product, unsigned_product};
 
+use calc_flags::Flags;
 use calc_signed::{low_bits, signed};
 use sheet::Product;
 
 // MULU.
+#[tactic(auto, unfolding(sheet::specs::Multiply::unsigned_product))]
 pub fn unsigned_product(word: bool, a: u16, b: u16) -> Product
     ensures { result ≡ unsigned_product word a b }
 {
     let bits = a as u32 * b as u32;
     Product {
-        bits: bits,
-        exceeds: !(bits < calc_word::modulus(word)),
+        bits,
+        exceeds: calc_word::modulus(word) <= bits,
     }
 }
 
@@ -29,6 +31,7 @@ fn times(x: i64, y: i64) -> i64
 }
 
 // Whether an operand of the width can hold z.
+#[tactic(auto, unfolding(sheet::specs::Multiply::fits_signed))]
 fn fits(word: bool, z: i64) -> bool
     ensures { result ≡ fits_signed word z }
 {
@@ -49,9 +52,14 @@ pub fn signed_product(word: bool, a: u16, b: u16) -> Product
 }
 
 // PSW after a product: CY and V say whether it exceeds its lower half.
+#[tactic(auto, unfolding(sheet::specs::Psw::settled))]
 pub fn product_psw(p: Product, psw: u16) -> u16
     ensures { result ≡ settled keeps (column (product_column p)) psw }
 {
-    let f = calc_flags::unpack(psw);
-    calc_psw::affect(f.ac, p.exceeds, p.exceeds, f.p, f.s, f.z, psw)
+    let f = Flags {
+        cy: p.exceeds,
+        v: p.exceeds,
+        ..Flags::from(psw)
+    };
+    calc_psw::affect(f, psw)
 }

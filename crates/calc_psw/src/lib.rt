@@ -1,115 +1,123 @@
 // PSW after an instruction: a column applied, one flag set, a trap entered, stored flags taken back, the mode changed. No preconditions.
-#![tactic(auto)]
+#![tactic(auto, unfolding(sheet::specs::Psw::settled, sheet::specs::Psw::in_mode, sheet::specs::Arithmetic::resulting, sheet::specs::Contract::flagged))]
 
 ghost use Rattle.std.specs.Prelude.{true, ◌≡◌};
-ghost use Rattle.sheet.specs.Psw.{CY, IE, DIR, flag_of, native_of, pack, becomes, columns, column, only, entering, keeps, settled, in_mode};
-ghost use Rattle.calc_psw.specs.Control.{controls};
+ghost use Rattle.sheet.specs.Psw as sheet;
+ghost use Rattle.sheet.specs.Psw.{flag_of, native_of, pack, becomes, columns, column, only, entering, keeps, settled, in_mode};
 ghost use Rattle.sheet.specs.Arithmetic.{resulting};
 ghost use Rattle.sheet.specs.Contract.{flagged};
 ghost use Rattle.sheet.specs.Transfer.{flags_of_byte};
 
-use calc_flags::Flags;
+use calc_flags::{BRK, DIR, Flags, IE, MD, V, flag};
 use calc_word::{even, sign};
 use sheet::Flagged;
 
-// The six flags of the sheet's columns, in its order. BRK, IE, DIR and MD stay.
-pub fn affect(ac: bool, cy: bool, v: bool, p: bool, s: bool, z: bool, psw: u16) -> u16
-    ensures { result ≡ settled keeps (column (columns (becomes ac) (becomes cy) (becomes v) (becomes p) (becomes s) (becomes z))) psw }
+// The six flags of the sheet's columns as given. BRK, IE, DIR and MD stay.
+pub fn affect(f: Flags, psw: u16) -> u16
+    ensures { result ≡ settled keeps (column (columns (becomes f.ac) (becomes f.cy) (becomes f.v) (becomes f.p) (becomes f.s) (becomes f.z))) psw }
 {
-    let md = calc_flags::native(psw);
-    calc_flags::pack(
-        md,
-        Flags {
-            cy,
-            p,
-            ac,
-            z,
-            s,
-            brk: calc_flags::brk(psw),
-            ie: calc_flags::ie(psw),
-            dir: calc_flags::dir(psw),
-            v,
-        },
-    )
+    let all = Flags {
+        brk: flag::<BRK>(psw),
+        ie: flag::<IE>(psw),
+        dir: flag::<DIR>(psw),
+        ..f
+    };
+    all.pack(flag::<MD>(psw))
 }
 
-// The result x: AC, CY and V as given, P, S and Z by x.
-pub fn result(word: bool, x: u16, ac: bool, cy: bool, v: bool, psw: u16) -> Flagged
-    ensures { result ≡ flagged (resulting word x (becomes ac) (becomes cy) (becomes v)) psw }
+// A value with the flags that do not follow from it.
+#[derive(Clone, Copy)]
+pub struct Outcome {
+    pub value: u16,
+    pub ac: bool,
+    pub cy: bool,
+    pub v: bool,
+}
+
+// P, S and Z are by the value.
+pub fn result(word: bool, t: Outcome, psw: u16) -> Flagged
+    ensures { result ≡ flagged (resulting word t.value (becomes t.ac) (becomes t.cy) (becomes t.v)) psw }
 {
+    let x = t.value;
+    let f = Flags {
+        ac: t.ac,
+        cy: t.cy,
+        v: t.v,
+        p: even(x),
+        s: sign(word, x),
+        z: x == 0,
+        ..Flags::from(psw)
+    };
     Flagged {
         value: x,
-        psw: affect(ac, cy, v, even(x), sign(word, x), x == 0, psw),
+        psw: affect(f, psw),
     }
 }
 
+// The flag is a field here and in the next two, and no field is a parameter.
 pub fn with_cy(b: bool, psw: u16) -> u16
-    ensures { result ≡ settled keeps (only CY b) psw }
+    ensures { result ≡ settled keeps (only sheet.CY b) psw }
 {
-    let f = calc_flags::unpack(psw);
-    affect(f.ac, b, f.v, f.p, f.s, f.z, psw)
-}
-
-// BRK, IE and DIR as given. The six others and MD stay.
-fn control(brk: bool, ie: bool, dir: bool, psw: u16) -> u16
-    ensures { result ≡ settled keeps (controls brk ie dir) psw }
-{
-    let md = calc_flags::native(psw);
-    let f = calc_flags::unpack(psw);
-    calc_flags::pack(
-        md,
-        Flags {
-            cy: f.cy,
-            p: f.p,
-            ac: f.ac,
-            z: f.z,
-            s: f.s,
-            brk,
-            ie,
-            dir,
-            v: f.v,
-        },
-    )
+    let f = Flags {
+        cy: b,
+        ..Flags::from(psw)
+    };
+    f.pack(flag::<MD>(psw))
 }
 
 pub fn with_ie(b: bool, psw: u16) -> u16
-    ensures { result ≡ settled keeps (only IE b) psw }
+    ensures { result ≡ settled keeps (only sheet.IE b) psw }
 {
-    control(calc_flags::brk(psw), b, calc_flags::dir(psw), psw)
+    let f = Flags {
+        ie: b,
+        ..Flags::from(psw)
+    };
+    f.pack(flag::<MD>(psw))
 }
 
 pub fn with_dir(b: bool, psw: u16) -> u16
-    ensures { result ≡ settled keeps (only DIR b) psw }
+    ensures { result ≡ settled keeps (only sheet.DIR b) psw }
 {
-    control(calc_flags::brk(psw), calc_flags::ie(psw), b, psw)
+    let f = Flags {
+        dir: b,
+        ..Flags::from(psw)
+    };
+    f.pack(flag::<MD>(psw))
 }
 
 // MD as given, the flags stay.
 pub fn in_mode(md: bool, psw: u16) -> u16
     ensures { result ≡ in_mode md psw }
 {
-    calc_flags::pack(md, calc_flags::unpack(psw))
+    Flags::from(psw).pack(md)
 }
 
 // On entering a trap IE and BRK become 0, MD 1.
 pub fn enter(psw: u16) -> u16
     ensures { result ≡ in_mode true (settled keeps entering psw) }
 {
-    in_mode(true, control(false, false, calc_flags::dir(psw), psw))
+    let f = Flags {
+        brk: false,
+        ie: false,
+        ..Flags::from(psw)
+    };
+    f.pack(true)
 }
 
 // The flags of a stored PSW with the fixed bits as they must be, whatever was stored. MD stays.
 pub fn restore(x: u16, psw: u16) -> u16
     ensures { result ≡ pack (native_of psw) (flag_of x) }
 {
-    let md = calc_flags::native(psw);
-    calc_flags::pack(md, calc_flags::unpack(x))
+    Flags::from(x).pack(flag::<MD>(psw))
 }
 
 // MOV PSW,AH.
 pub fn from_ah(ah: u16, psw: u16) -> u16
     ensures { result ≡ settled keeps (column (flags_of_byte ah)) psw }
 {
-    let f = calc_flags::unpack(ah);
-    affect(f.ac, f.cy, calc_flags::v(psw), f.p, f.s, f.z, psw)
+    let f = Flags {
+        v: flag::<V>(psw),
+        ..Flags::from(ah)
+    };
+    affect(f, psw)
 }

@@ -2,11 +2,10 @@
 use mathlib.Core.Path.{◌≡◌, refl}
 use mathlib.Core.Bool.{Bool}
 use Prim.Native.Nat.{ℕ}
-use Rattle.sheet.specs.declared.Flagged.{Flagged}
 use Rattle.sheet.specs.declared.Shift.{Shift}
 use Rattle.sheet.specs.declared.Shift.TheVariants.{Rol, Ror, Rolc, Rorc, Shl, Shr, Shra}
 use Rattle.sheet.specs.declared.Turn.{Turn}
-use Rattle.sheet.specs.Psw.{OV, Effect, flag_of, unknown, becomes, settled}
+use Rattle.sheet.specs.Psw.{OV, flag_of, unknown, becomes, settled}
 use Rattle.sheet.specs.Arithmetic.{resulting}
 use Rattle.sheet.specs.Shift.{rotated, shifted, turned}
 use Rattle.sheet.specs.Contract.{flagged}
@@ -20,7 +19,3 @@ kept_v Rorc w t psw = refl
 kept_v Shl w t psw = refl
 kept_v Shr w t psw = refl
 kept_v Shra w t psw = refl
-
--- a kind that is known to be another
-pub turned_known : (k j : Shift) (w : Bool) (t : Turn) (v : Effect) (psw : ℕ) (r : Flagged) → k ≡ j → r ≡ flagged (turned j w t v) psw → r ≡ flagged (turned k w t v) psw
-turned_known k j w t v psw r e h = rw e h

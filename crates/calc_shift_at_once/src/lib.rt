@@ -64,7 +64,7 @@ fn rol(word: bool, m: u8, t: Turn) -> Turn
     let y = base_at_once::left(width(word), m, fit(word, t.value) as u32);
     Turn {
         value: y as u16,
-        cy: t.cy,
+        ..t
     }
 }
 
@@ -75,7 +75,7 @@ fn ror(word: bool, m: u8, t: Turn) -> Turn
     let y = base_at_once::right(width(word), m, t.value as u32);
     Turn {
         value: y as u16,
-        cy: t.cy,
+        ..t
     }
 }
 
@@ -102,7 +102,7 @@ fn shl(word: bool, m: u8, t: Turn) -> Turn
     let y = base_at_once::up(m, fit(word, t.value));
     Turn {
         value: wrap(word, y),
-        cy: t.cy,
+        ..t
     }
 }
 
@@ -112,7 +112,7 @@ fn shr(word: bool, m: u8, t: Turn) -> Turn
 {
     Turn {
         value: base_at_once::down(m, 0, t.value),
-        cy: t.cy,
+        ..t
     }
 }
 
@@ -122,7 +122,7 @@ fn shra(word: bool, m: u8, t: Turn) -> Turn
 {
     Turn {
         value: base_at_once::down(m, above(word, sign(word, t.value)), t.value),
-        cy: t.cy,
+        ..t
     }
 }
 

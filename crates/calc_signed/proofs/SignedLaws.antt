@@ -1,4 +1,4 @@
--- What the machine reads back from the bits of a signed number of 64 bits, the range of signed readings, and the low bits by their sign.
+-- What the machine reads back from the bits of a signed number of 64 bits, and the range of signed readings.
 use mathlib.Core.Path.{◌≡◌, refl, sym, ap, ◌∙◌}
 use mathlib.Core.Bool.{Bool, true, false}
 use Prim.Native.Nat.{ℕ, zero, suc, ◌-◌, ◌*◌, ◌%◌, ◌^◌, ◌≤◌, ◌<◌}
@@ -40,13 +40,6 @@ mag_diff a (suc b) k ha hb = mag_sub a (suc b) k ha hb
 pub diff_fits : (a b : ℕ) → a < 2 ^ 40 → b < 2 ^ 40 → SFits w64 (pos a -ℤ pos b)
 diff_fits a b ha hb = record { sfits = mag_diff a b (2 ^ 63) (omega arith) (omega arith) }
 
--- -h
-pub minus_fits : (h : ℕ) → h < 2 ^ 40 → SFits w64 (pos 0 -ℤ to_z w64 h)
-minus_fits h l = rw (reads_pos h (omega arith)) (diff_fits 0 h (omega arith) l)
-
-pub minus_reads : (h : ℕ) → h < 2 ^ 40 → to_z w64 (of_z w64 (pos 0 -ℤ to_z w64 h)) ≡ pos 0 -ℤ pos h
-minus_reads h l = rw (reads_pos h (omega arith)) (to_z-of_z w64 (pos 0 -ℤ pos h) (diff_fits 0 h (omega arith) l))
-
 -- ---- the range of a signed reading, and that only 0 reads as 0
 
 pub signed_lt : (h x k : ℕ) → x < k → 2 * h ≤ k → mag (signed_of h x) < k
@@ -71,21 +64,3 @@ signed_nz h x hx z = go (ltb x h) refl
     go : (t : Bool) → ltb x h ≡ t → signed_of h x ≡ pos 0 → ⊥
     go true e p = z (ap nat_abs (rw e at p))
     go false e p = diff_nz x (2 * h) hx (rw e at p)
-
--- ---- the low bits, below 0 and from 0 on
-
-no_lt_zero : (n : ℕ) → ltb n 0 ≡ true → ⊥
-no_lt_zero n e = let h = ltb-true n 0 e in omega arith
-
-pub turned : (z : ℤ) → lt_z z (pos 0) ≡ true → negsuc 0 -ℤ z ≡ pos (mag z)
-turned (pos n) e = absurd (no_lt_zero n e)
-turned (negsuc n) e = rw (le-ltb (suc n) 1 (omega arith)) (ap pos (omega arith))
-
-pub bits_below : (z : ℤ) → lt_z z (pos 0) ≡ true → 4294967295 - mag z % 4294967296 ≡ bits32 z
-unfolding bits32
-bits_below (pos n) e = absurd (no_lt_zero n e)
-bits_below (negsuc n) e = omega arith
-
-pub not_below : (z : ℤ) → lt_z z (pos 0) ≡ false → z ≡ pos (mag z)
-not_below (pos n) e = refl
-not_below (negsuc n) e = cc

@@ -5,6 +5,7 @@ ghost use Rattle.std.specs.Prelude.{◌≡◌};
 ghost use Rattle.sheet.specs.Width.{signed_of, bits32};
 
 // The number that x stands for, where h is half of all values.
+#[tactic(auto, unfolding(sheet::specs::Width::signed_of))]
 pub fn signed(h: u32, x: u32) -> i64
     ensures { result ≡ signed_of h x }
 {
@@ -17,13 +18,9 @@ pub fn signed(h: u32, x: u32) -> i64
 }
 
 // The low 32 bits of a number.
+#[tactic(auto, using(std::proofs::lemmas::Int::ints), unfolding(sheet::specs::Width::bits32))]
 pub fn low_bits(z: i64) -> u32
     ensures { result ≡ bits32 z }
 {
-    if z < 0 {
-        let n = (-1 - z) as u64;
-        (4294967295 - n % 4294967296) as u32
-    } else {
-        (z as u64 % 4294967296) as u32
-    }
+    (z.cast_unsigned() % 4294967296) as u32
 }

@@ -1,5 +1,5 @@
 // The two widths of an operand in code: `word` is the sheet's bit W, true for a word and false for a byte.
-// No function here has a precondition.
+// No function here has a precondition. `modulus`, `half` and `bytes` name the numbers that they pick by the width: a generic pick would be the `if` again.
 #![tactic(auto)]
 
 ghost use Rattle.std.specs.Prelude.{◌≡◌, ◌≤◌};
@@ -7,6 +7,7 @@ ghost use Rattle.sheet.specs.Width.{pick, mod_of, half_of, bytes_of, wrap_of, si
 ghost use Rattle.sheet.specs.Psw.{bit};
 
 // The low 16 or 8 bits.
+#[tactic(auto, unfolding(sheet::specs::Width::wrap_of))]
 pub fn wrap(word: bool, x: u32) -> u16
     ensures { result ≡ wrap_of word x }
 {
@@ -39,6 +40,7 @@ pub fn bytes(word: bool) -> u16
 }
 
 // Bit 15 or 7.
+#[tactic(auto, unfolding(sheet::specs::Width::sign_of))]
 pub fn sign(word: bool, x: u16) -> bool
     ensures { result ≡ sign_of word x }
 {
@@ -46,6 +48,7 @@ pub fn sign(word: bool, x: u16) -> bool
 }
 
 // P: the low byte has an even count of ones.
+#[tactic(auto, unfolding(sheet::specs::Width::even_of))]
 pub fn even(x: u16) -> bool
     ensures { result ≡ even_of x }
 {
@@ -53,30 +56,31 @@ pub fn even(x: u16) -> bool
 }
 
 // A byte widened to a word with its sign.
+#[tactic(auto, unfolding(sheet::specs::Width::extend, sheet::specs::Width::sign_of))]
 pub fn sign_extend(b: u8) -> u16
     ensures { result ≡ extend b }
 {
-    if b < 128 { b as u16 } else { b as u16 + 65280 }
+    i16::from(b.cast_signed()).cast_unsigned()
 }
 
 // Offsets and registers wrap at 65,536.
 pub fn plus16(a: u16, b: u16) -> u16
     ensures { result ≡ add16 a b }
 {
-    std::num::wrapping_add_u16(a, b)
+    a.wrapping_add(b)
 }
 
 pub fn minus16(a: u16, b: u16) -> u16
     ensures { result ≡ sub16 a b }
 {
-    std::num::wrapping_sub_u16(a, b)
+    a.wrapping_sub(b)
 }
 
 // A flag as a digit, with its bound for the sums that it goes into.
 pub fn digit(b: bool) -> u16
     ensures { (result ≡ bit b) × (result ≤ 1) }
 {
-    if b { 1 } else { 0 }
+    u16::from(b)
 }
 
 // k where the test holds, else 0, with its bound for the sums that it goes into.

@@ -1,48 +1,48 @@
 -- What the turns of the loops come to. Assumes nothing.
-use Prim.Native.Nat.{ℕ, ◌+◌, ◌*◌, ◌^◌, ◌<◌, ◌≤◌}
-use mathlib.Core.Bool.{Bool, true, false, cond, ◌&&◌}
-use mathlib.Core.List.{List, [], ◌∷◌, ◌++◌}
+use Prim.Native.Nat.{ℕ, zero, suc, ◌+◌, ◌*◌, ◌<◌, ◌≤◌}
+use mathlib.Core.Bool.{Bool, true, false, ◌&&◌}
+use mathlib.Core.List.{List}
 use mathlib.Core.Path.{◌≡◌, refl, sym, ap, ◌∙◌}
-use native.Mathlib.Nat.{le_antisymm}
 use native.Mathlib.Numerals.{add-one}
 use native.Mathlib.Omega.{arith}
-use lib.ListN.{length, get_or, take, drop, set, replicate, length-set, replicate-append-replicate, drop_of_length-le}
-use lib.Seq.{take-suc-set, take_all, drop-cons}
+use lib.ListN.{get_or, set}
 use lib.Dec.{eqb, leb}
-use lib.Bits.{bit_xor, xor_lt}
-use borrow.Author.Tests.{eq-eqb, ne_eqb}
+use borrow.Author.Tests.{eq-eqb, ne_eqb, le-leb, lt-leb, eqb-true, eqb-false}
 use Rattle.case_bytes.specs.Numbers.{double_at}
-use Rattle.case_bytes.specs.Buffers.{mixed, sum_of, patched_at, patched, kinds_of}
+use Rattle.case_bytes.specs.Buffers.{patched_at, patched, kinds_of}
 
--- one byte more is filled
-pub filled : (l : List ℕ) (i v : ℕ) → i < length l → take i l ≡ replicate i v → take (i + 1) (set l i v) ≡ replicate (i + 1) v
-filled l i v h e = ap (λ (n : ℕ). take n (set l i v)) (add-one i) ∙ take-suc-set l i v h ∙ ap (λ (x : List ℕ). x ++ (v ∷ [])) e ∙ replicate-append-replicate i 1 v
+-- ---- kinds
 
-pub all_filled : (l : List ℕ) (i n v : ℕ) → length l ≡ n → n ≤ i → i ≤ n → take i l ≡ replicate i v → l ≡ replicate n v
-all_filled l i n v e a b f = sym (take_all i l (omega arith)) ∙ f ∙ ap (λ (k : ℕ). replicate k v) (le_antisymm b a)
-
--- one byte more is summed
-pub summed : (l : List ℕ) (i x s : ℕ) → i < length l → sum_of x (drop i l) ≡ s → sum_of (mixed x (get_or l i 0)) (drop (i + 1) l) ≡ s
-unfolding sum_of
-summed l i x s h e = rw (add-one i) (rw (drop-cons l i 0 h) at e)
-
-pub all_summed : (l : List ℕ) (i x s : ℕ) → length l ≤ i → sum_of x (drop i l) ≡ s → x ≡ s
-unfolding sum_of
-all_summed l i x s h e = rw (drop_of_length-le l {i = i} h) at e
+pub no_kinds : (patches : List ℕ) → kinds_of patches 0 ≡ true
+unfolding kinds_of
+no_kinds patches = refl
 
 -- one kind more is looked at
-pub kinds_more : (patches : List ℕ) (i : ℕ) (good : Bool) → good ≡ kinds_of patches i → (good && leb (get_or patches (i * 6) 0) 2) ≡ kinds_of patches (i + 1)
+pub kinds_more : (patches : List ℕ) (i : ℕ) → get_or patches (i * 6) 0 ≤ 2 → kinds_of patches i ≡ true → kinds_of patches (i + 1) ≡ true
 unfolding kinds_of
-kinds_more patches i good e = rw (add-one i, e)
+kinds_more patches i h e = rw (add-one i, e, le-leb (get_or patches (i * 6) 0) 2 h)
 
--- a patch keeps a buffer's length
-pub patched_length : (kind : ℕ) (patches : List ℕ) (at : ℕ) (l : List ℕ) → length (patched_at kind patches at l) ≡ length l
-unfolding patched_at
-patched_length kind patches at l = go (eqb (get_or patches at 0) kind)
+and_false : (b : Bool) → false ≡ b && false
+and_false true = refl
+and_false false = refl
+
+pub kind_unknown : (patches : List ℕ) (i n : ℕ) → i < n → 2 < get_or patches (i * 6) 0 → false ≡ kinds_of patches n
+unfolding kinds_of
+kind_unknown patches i zero l h = absurd (omega arith)
+kind_unknown patches i (suc n) l h = go (λ m. kind_unknown patches i n m h) (eqb i n) refl
   where
-    go : (b : Bool) → length (cond b (set l (double_at patches (at + 1)) (get_or patches (at + 5) 0)) l) ≡ length l
-    go true = length-set l _ _
-    go false = refl
+    go : (i < n → false ≡ kinds_of patches n) → (b : Bool) → eqb i n ≡ b → false ≡ kinds_of patches n && leb (get_or patches (n * 6) 0) 2
+    go ih true q = rw (← eqb-true i n q, lt-leb (get_or patches (i * 6) 0) 2 h) (and_false (kinds_of patches i))
+    go ih false q = let m : i < n = omega (arith, eqb-false i n q) in rw (← ih m)
+
+pub all_kinds : (patches : List ℕ) (i n : ℕ) → i ≡ n → kinds_of patches i ≡ true → true ≡ kinds_of patches n
+all_kinds patches i n e h = rw (← e) (sym h)
+
+-- ---- patches
+
+pub none_patched : (kind : ℕ) (patches l : List ℕ) → l ≡ patched kind patches 0 l
+unfolding patched
+none_patched kind patches l = refl
 
 -- one patch more
 pub patched_more : (kind : ℕ) (patches : List ℕ) (i : ℕ) (l₀ l z : List ℕ) → l ≡ patched kind patches i l₀ → z ≡ patched_at kind patches (i * 6) l → z ≡ patched kind patches (i + 1) l₀
@@ -57,7 +57,3 @@ module _ (kind : ℕ) (patches : List ℕ) (at : ℕ) (l : List ℕ) where
   pub patch_left : (get_or patches at 0 ≡ kind → ⊥) → l ≡ patched_at kind patches at l
   unfolding patched_at
   patch_left e = rw (ne_eqb _ _ e)
-
--- a byte and a sum mixed fit 32 bits
-pub mixed_fits : (sum byte : ℕ) → sum < 2 ^ 32 → byte < 256 → bit_xor sum byte < 2 ^ 32
-mixed_fits sum byte a b = xor_lt 32 sum byte a (omega arith)

@@ -1,5 +1,5 @@
 -- What a case's buffers hold: sums and patches.
-use Rattle.std.specs.Prelude.{ℕ, zero, suc, ◌+◌, ◌*◌, ◌%◌, Bool, true, cond, ◌&&◌, List, [], ◌∷◌, get_or, set, eqb, leb}
+use Rattle.std.specs.Prelude.{ℕ, zero, suc, ◌+◌, ◌*◌, ◌%◌, Bool, true, cond, ◌&&◌, List, get_or, set, eqb, leb, fold}
 use Rattle.std.specs.Int.Bits.{bit_xor}
 use Rattle.case_bytes.specs.Numbers.{double_at}
 
@@ -8,8 +8,7 @@ unfoldable pub mixed : ℕ → ℕ → ℕ
 mixed sum byte = bit_xor sum byte * 16777619 % 4294967296
 
 unfoldable pub sum_of : ℕ → List ℕ → ℕ
-sum_of sum [] = sum
-sum_of sum (byte ∷ bytes) = sum_of (mixed sum byte) bytes
+sum_of sum bytes = fold mixed sum bytes
 
 -- whether so many patches are of the kinds 0 RAM, 1 ROM, 2 log
 unfoldable pub kinds_of : List ℕ → ℕ → Bool

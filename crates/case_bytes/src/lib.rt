@@ -1,88 +1,66 @@
-// The bytes of a case stream: numbers of two and four bytes, and buffers that are filled, patched and summed.
+// The bytes of a case stream: numbers of two and four bytes, and buffers that are patched and summed.
 #![tactic(auto)]
 
-ghost use Rattle.std.specs.Prelude.{◌≡◌, ◌+◌, ◌*◌, ◌≤◌, length, replicate, set};
-ghost use Rattle.case_bytes.specs.Numbers.{word_of, word_at, double_of, double_at, word_put, double_put};
+ghost use Rattle.std.specs.Prelude.{◌≡◌, ◌+◌, ◌/◌, ◌≤◌, length, set};
+ghost use Rattle.case_bytes.specs.Numbers.{word_at, double_at, word_put, double_put};
 ghost use Rattle.case_bytes.specs.Buffers.{mixed, sum_of, patched_at, patched, kinds_of};
 
 // ---- numbers, the lowest byte first
 
-fn word(low: u8, high: u8) -> u16
-    ensures { result ≡ word_of low high }
-{
-    low as u16 + 256 * (high as u16)
-}
-
+#[tactic(auto, unfolding(crate::specs::Numbers::word_at, crate::specs::Numbers::word_of))]
 pub fn word_at(bytes: &[u8], at: usize) -> u16
     requires { at + 2 ≤ length bytes.now }
     ensures { result ≡ word_at bytes.now at }
 {
-    word(bytes[at], bytes[at + 1])
+    u16::from_le_bytes([bytes[at], bytes[at + 1]])
 }
 
-fn double(low: u16, high: u16) -> u32
-    ensures { result ≡ double_of low high }
-{
-    low as u32 + 65536 * (high as u32)
-}
-
+#[tactic(auto, unfolding(crate::specs::Numbers::double_at, crate::specs::Numbers::double_of, crate::specs::Numbers::word_at, crate::specs::Numbers::word_of))]
 pub fn double_at(bytes: &[u8], at: usize) -> u32
     requires { at + 4 ≤ length bytes.now }
     ensures { result ≡ double_at bytes.now at }
 {
-    let low = word_at(bytes, at);
-    let high = word_at(bytes, at + 2);
-    double(low, high)
+    u32::from_le_bytes([bytes[at], bytes[at + 1], bytes[at + 2], bytes[at + 3]])
 }
 
+#[tactic(auto, unfolding(crate::specs::Numbers::word_put))]
 pub fn put_word(bytes: &mut [u8], at: usize, value: u16)
     requires { at + 2 ≤ length bytes.old }
     ensures { bytes.new ≡ word_put bytes.old at value }
 {
-    bytes[at] = (value % 256) as u8;
-    bytes[at + 1] = (value / 256) as u8;
+    let [low, high] = value.to_le_bytes();
+    bytes[at] = low;
+    bytes[at + 1] = high;
 }
 
+#[tactic(auto, unfolding(crate::specs::Numbers::double_put, crate::specs::Numbers::word_put))]
 pub fn put_double(bytes: &mut [u8], at: usize, value: u32)
     requires { at + 4 ≤ length bytes.old }
     ensures { bytes.new ≡ double_put bytes.old at value }
 {
-    put_word(bytes, at, (value % 65536) as u16);
-    put_word(bytes, at + 2, (value / 65536) as u16);
+    let [a, b, c, d] = value.to_le_bytes();
+    bytes[at] = a;
+    bytes[at + 1] = b;
+    bytes[at + 2] = c;
+    bytes[at + 3] = d;
 }
 
 // ---- buffers
 
 // One byte more in a sum.
+#[tactic(auto, unfolding(crate::specs::Buffers::mixed))]
 fn mix(sum: u32, byte: u8) -> u32
     ensures { result ≡ mixed sum byte }
 {
-    let x = sum ^ byte as u32;
-    (x as u64 * 16777619 % 4294967296) as u32
+    (sum ^ u32::from(byte)).wrapping_mul(16777619)
 }
 
 // The sum of a buffer: FNV-1a over 32 bits.
+#[tactic(auto, unfolding(crate::specs::Buffers::sum_of))]
 pub fn sum(bytes: &[u8]) -> u32
     ensures { result ≡ sum_of 2166136261 bytes.now }
 {
-    let mut sum = 2166136261;
-    let mut i = 0;
-    while i < bytes.len() {
-        sum = mix(sum, bytes[i]);
-        i += 1;
-    }
-    sum
-}
-
-// The same byte everywhere.
-pub fn fill(buffer: &mut [u8], value: u8)
-    ensures { buffer.new ≡ replicate (length buffer.old) value }
-{
-    let mut i = 0;
-    while i < buffer.len() {
-        buffer[i] = value;
-        i += 1;
-    }
+    bytes.iter().fold(2166136261, |sum, byte| mix(sum, *byte))
 }
 
 // One byte stored, unless its index lies past the end.
@@ -106,28 +84,23 @@ fn patch(buffer: &mut [u8], kind: u8, patches: &[u8], at: usize)
     }
 }
 
-// Whether the first n patches are of a kind that there is.
-pub fn kinds(patches: &[u8], n: usize) -> bool
-    requires { n * 6 ≤ length patches.now }
-    ensures { result ≡ kinds_of patches.now n }
+// Whether the patches are of kinds that there are.
+pub fn kinds(patches: &[u8]) -> bool
+    ensures { result ≡ kinds_of patches.now (length patches.now / 6) }
 {
-    let mut good = true;
-    let mut i = 0;
-    while i < n {
-        good = good & (patches[i * 6] <= 2);
-        i += 1;
+    for i in 0..patches.len() / 6 {
+        if 2 < patches[i * 6] {
+            return false;
+        }
     }
-    good
+    true
 }
 
-// The first n patches, as far as they are of the kind.
-pub fn patch_all(buffer: &mut [u8], kind: u8, patches: &[u8], n: usize)
-    requires { n * 6 ≤ length patches.now }
-    ensures { buffer.new ≡ patched kind patches.now n buffer.old }
+// The patches, as far as they are of the kind.
+pub fn patch_all(buffer: &mut [u8], kind: u8, patches: &[u8])
+    ensures { buffer.new ≡ patched kind patches.now (length patches.now / 6) buffer.old }
 {
-    let mut i = 0;
-    while i < n {
+    for i in 0..patches.len() / 6 {
         patch(buffer, kind, patches, i * 6);
-        i += 1;
     }
 }

@@ -11,35 +11,32 @@ use sheet::{Bus, Entry, GapRule, Marks, Progress, State};
 // ---- the header
 
 // Whether it keeps the rules of the stream, the limits of its lengths apart.
+#[tactic(auto, unfolding(crate::specs::Form::good_header))]
 pub fn good_header(header: &[u8; 72]) -> bool
     ensures { result ≡ good_header header.now }
 {
-    let undefined = word_at(header, 64);
-    let low = word_at(header, 66);
-    let high = double_at(header, 68);
-    (header[0] <= 5)
-        & ((header[1] <= 1)
-            & ((header[2] <= 1)
-                & ((header[61] <= 1)
-                    & ((header[62] <= 1)
-                        & ((header[63] <= 1) & ((undefined == 0) & ((low == 0) & (high == 0))))))))
+    header[0] <= 5
+        && header[1] <= 1
+        && header[2] <= 1
+        && header[61] <= 1
+        && header[62] <= 1
+        && header[63] <= 1
+        && word_at(header, 64) == 0
+        && word_at(header, 66) == 0
+        && double_at(header, 68) == 0
 }
 
 // The registers stand in the stream as AW CW DW BW SP BP IX IY PS SS DS0 DS1 PC PSW: where the register file has each.
+#[tactic(auto, unfolding(crate::specs::Form::place_of))]
 fn place(i: usize) -> usize
     requires { i < 14 }
     ensures { (result ≡ place_of i) × (result < 14) }
 {
-    if i < 8 {
-        return i;
+    match i {
+        8..=10 => i + 1,
+        11 => 8,
+        _ => i,
     }
-    if i < 11 {
-        return i + 1;
-    }
-    if i < 12 {
-        return 8;
-    }
-    i
 }
 
 // The registers of a header.
@@ -47,39 +44,34 @@ fn file_of(header: &[u8; 72]) -> [u16; 14]
     ensures { result ≡ file_of header.now 14 }
 {
     let mut file = [0; 14];
-    let mut i = 0;
-    while i < 14 {
-        let at = place(i);
-        file[at] = word_at(header, 6 + i * 2);
-        i += 1;
+    for i in 0..14 {
+        file[place(i)] = word_at(header, 6 + i * 2);
     }
     file
 }
 
 // The state of a header.
+#[tactic(auto, unfolding(crate::specs::Form::state_of))]
 pub fn state_of(header: &[u8; 72]) -> State
     ensures { result ≡ state_of header.now }
 {
-    let file = file_of(header);
-    let tape = double_at(header, 34);
-    let log = double_at(header, 38);
-    let count = double_at(header, 42);
     State {
-        file,
+        file: file_of(header),
         marks: Marks {
             halted: header[1] != 0,
             loaded: header[61] != 0,
             writable: header[62] != 0,
         },
         progress: Progress {
-            tape: tape as usize,
-            log: log as usize,
-            count,
+            tape: double_at(header, 34) as usize,
+            log: double_at(header, 38) as usize,
+            count: double_at(header, 42),
         },
     }
 }
 
 // The gap rule that a log is read under.
+#[tactic(auto, unfolding(crate::specs::Form::rule_of))]
 fn rule_of(header: &[u8; 72]) -> GapRule
     ensures { result ≡ rule_of header.now }
 {
@@ -101,7 +93,8 @@ pub enum Call {
     Quick,
 }
 
-// The call of a number; no good header has one above 5.
+// The call of a number; no good header has one above 5. It answers for every number, as `case_of` does for every header, and so is no `TryFrom`.
+#[tactic(auto, unfolding(crate::specs::Form::call_of))]
 fn call_of(number: u8) -> Call
     ensures { result ≡ call_of number }
 {
@@ -131,53 +124,48 @@ pub struct Case {
     pub fill: u8,
 }
 
+#[tactic(auto, unfolding(crate::specs::Form::case_of))]
 pub fn case_of(header: &[u8; 72]) -> Case
     ensures { result ≡ case_of header.now }
 {
-    let call = call_of(header[0]);
-    let budget = word_at(header, 4);
-    let rule = rule_of(header);
-    let ram = double_at(header, 46);
-    let rom = double_at(header, 50);
-    let tape = word_at(header, 54);
-    let log = word_at(header, 56);
-    let patches = word_at(header, 58);
     Case {
-        call,
+        call: call_of(header[0]),
         maskable: header[2] != 0,
         vector: header[3],
-        budget,
-        rule,
-        ram: ram as usize,
-        rom: rom as usize,
-        tape: tape as usize,
-        log: log as usize,
-        patches: patches as usize,
+        budget: word_at(header, 4),
+        rule: rule_of(header),
+        ram: double_at(header, 46) as usize,
+        rom: double_at(header, 50) as usize,
+        tape: usize::from(word_at(header, 54)),
+        log: usize::from(word_at(header, 56)),
+        patches: usize::from(word_at(header, 58)),
         fill: header[60],
     }
 }
 
 // Whether buffers of these lengths are as long as a case has them; a patch has six bytes.
+#[tactic(auto, unfolding(crate::specs::Form::fits_in))]
 pub fn fits(c: Case, ram: usize, rom: usize, tape: usize, log: usize, patches: usize) -> bool
     ensures { result ≡ fits_in c ram rom tape log patches }
 {
-    (c.ram <= ram)
-        & ((c.rom <= rom) & ((c.tape <= tape) & ((c.log <= log) & (c.patches <= patches / 6))))
+    c.ram <= ram && c.rom <= rom && c.tape <= tape && c.log <= log && c.patches <= patches / 6
 }
 
 // ---- the result of a call on the machine
 
+#[tactic(auto, unfolding(crate::specs::Form::with_answer))]
 fn put_answer(out: &mut [u8; 88], number: u8, marks: Marks, steps: u32)
     ensures { out.new ≡ with_answer number marks steps out.old }
 {
     out[0] = number;
-    out[1] = marks.halted as u8;
-    out[70] = marks.loaded as u8;
-    out[71] = marks.writable as u8;
+    out[1] = u8::from(marks.halted);
+    out[70] = u8::from(marks.loaded);
+    out[71] = u8::from(marks.writable);
     put_double(out, 2, steps);
 }
 
 // Bus cycles and dropped bytes.
+#[tactic(auto, unfolding(crate::specs::Form::with_tally))]
 fn put_tally(out: &mut [u8; 88], bus: Bus)
     ensures { out.new ≡ with_tally bus out.old }
 {
@@ -188,15 +176,13 @@ fn put_tally(out: &mut [u8; 88], bus: Bus)
 fn put_file(out: &mut [u8; 88], file: &[u16; 14])
     ensures { out.new ≡ with_file file.now 14 out.old }
 {
-    let mut i = 0;
-    while i < 14 {
-        let at = place(i);
-        put_word(out, 10 + i * 2, file[at]);
-        i += 1;
+    for i in 0..14 {
+        put_word(out, 10 + i * 2, file[place(i)]);
     }
 }
 
 // Places have 32 bits in a stream.
+#[tactic(auto, unfolding(crate::specs::Form::with_places))]
 fn put_places(out: &mut [u8; 88], tape: usize, log: usize, count: u32)
     ensures { out.new ≡ with_places tape log count out.old }
 {
@@ -206,17 +192,17 @@ fn put_places(out: &mut [u8; 88], tape: usize, log: usize, count: u32)
 }
 
 // All but the sums.
+#[tactic(auto, unfolding(crate::specs::Form::with_call))]
 fn put_call(out: &mut [u8; 88], number: u8, steps: u32, bus: Bus, s: State)
     ensures { out.new ≡ with_call number steps bus s out.old }
 {
-    let marks = s.marks;
-    put_answer(out, number, marks, steps);
+    put_answer(out, number, s.marks, steps);
     put_tally(out, bus);
-    let file = s.file;
-    put_file(out, &file);
+    put_file(out, &s.file);
     put_places(out, s.progress.tape, s.progress.log, s.progress.count);
 }
 
+#[tactic(auto, unfolding(crate::specs::Form::with_sums))]
 fn put_sums(out: &mut [u8; 88], ram: u32, log: u32)
     ensures { out.new ≡ with_sums ram log out.old }
 {
@@ -225,6 +211,7 @@ fn put_sums(out: &mut [u8; 88], ram: u32, log: u32)
 }
 
 // The whole result: the bytes for what a call came to, with the sums of RAM and log after it.
+#[tactic(auto, unfolding(crate::specs::Form::result_of))]
 pub fn result_of(number: u8, steps: u32, bus: Bus, s: State, ram: u32, log: u32) -> [u8; 88]
     ensures { result ≡ result_of number steps bus s ram log }
 {
@@ -236,6 +223,7 @@ pub fn result_of(number: u8, steps: u32, bus: Bus, s: State, ram: u32, log: u32)
 
 // ---- the result of a log reading
 
+#[tactic(auto, unfolding(crate::specs::Form::with_record))]
 fn put_record(out: &mut [u8; 17], kind: u8, gap: u64, key: u64, value: u64, next: usize)
     ensures { out.new ≡ with_record kind gap key value next out.old }
 {
@@ -246,6 +234,7 @@ fn put_record(out: &mut [u8; 17], kind: u8, gap: u64, key: u64, value: u64, next
     put_double(out, 13, (next % 4294967296) as u32);
 }
 
+#[tactic(auto, unfolding(crate::specs::Form::with_entry))]
 pub fn put_entry(out: &mut [u8; 17], e: Entry)
     ensures { out.new ≡ with_entry e out.old }
 {

@@ -6,6 +6,8 @@ use mathlib.Core.Path.{◌≡◌, refl}
 use lib.ListN.{replicate}
 use Rattle.sheet.specs.declared.Bus.{Bus}
 use Rattle.sheet.specs.declared.State.{State}
+use Rattle.sheet.specs.Refusals.{number_in}
+use Rattle.std.specs.Prelude.{Ok}
 use Rattle.sheet.specs.declared.GapRule.{GapRule}
 use Rattle.sheet.specs.declared.Entry.{Entry}
 use Rattle.sheet.specs.Step as definition
@@ -21,7 +23,7 @@ use Rattle.cases.specs.declared.call.Done.{Done}
 use Rattle.cases.specs.Called.{steps_of, reset_as, bytes_of, Called, Result, Reading}
 
 module _ (c : Case) (s : State) (ram rom tape log : List ℕ) (d : Done) (ram' log' : List ℕ) where
-  pub by_step : c.call ≡ Step → d.steps ≡ steps_of d.number → Steps s ram rom tape log d.number d.state ram' log' d.bus → Called c s ram rom tape log d ram' log'
+  pub by_step : c.call ≡ Step → d.steps ≡ steps_of (number_in d.end) → Steps s ram rom tape log (number_in d.end) d.state ram' log' d.bus → Called c s ram rom tape log d ram' log'
   by_step e n p =
       record {
         step = λ z. (n, p);
@@ -31,7 +33,7 @@ module _ (c : Case) (s : State) (ram rom tape log : List ℕ) (d : Done) (ram' l
         reset = λ z. absurd (true≢false cc);
       }
 
-  pub by_run : c.call ≡ Run → Runs c.budget s ram rom tape log d.number d.state ram' log' d.steps d.bus → Called c s ram rom tape log d ram' log'
+  pub by_run : c.call ≡ Run → Runs c.budget s ram rom tape log (number_in d.end) d.state ram' log' d.steps d.bus → Called c s ram rom tape log d ram' log'
   by_run e p =
       record {
         step = λ z. absurd (true≢false cc);
@@ -41,7 +43,7 @@ module _ (c : Case) (s : State) (ram rom tape log : List ℕ) (d : Done) (ram' l
         reset = λ z. absurd (true≢false cc);
       }
 
-  pub by_quick : c.call ≡ Quick → Runs c.budget s ram rom tape log d.number d.state ram' log' d.steps d.bus → Called c s ram rom tape log d ram' log'
+  pub by_quick : c.call ≡ Quick → Runs c.budget s ram rom tape log (number_in d.end) d.state ram' log' d.steps d.bus → Called c s ram rom tape log d ram' log'
   by_quick e p =
       record {
         step = λ z. absurd (true≢false cc);
@@ -52,7 +54,7 @@ module _ (c : Case) (s : State) (ram rom tape log : List ℕ) (d : Done) (ram' l
       }
 
 module _ (c : Case) (s : State) (ram rom tape log : List ℕ) (d : Done) (ram' : List ℕ) where
-  pub by_interrupt : c.call ≡ Interrupt → d.steps ≡ 0 → Interrupts c.vector c.maskable s ram rom tape log d.number d.state ram' d.bus → Called c s ram rom tape log d ram' log
+  pub by_interrupt : c.call ≡ Interrupt → d.steps ≡ 0 → Interrupts c.vector c.maskable s ram rom tape log (number_in d.end) d.state ram' d.bus → Called c s ram rom tape log d ram' log
   by_interrupt e n p =
       record {
         step = λ z. absurd (true≢false cc);
@@ -84,7 +86,7 @@ module _ (c : Case) (s : State) (ram rom tape log : List ℕ) (d : Done) where
         reset = λ z. absurd (true≢false cc);
       }
 
-pub reset_as_lem : (s : State) (n : Bus) → s ≡ definition.reset → Free n → record { number = 0; steps = 0; state = s; bus = n } ≡ reset_as
+pub reset_as_lem : (s : State) (n : Bus) → s ≡ definition.reset → Free n → record { end = Ok tt; steps = 0; state = s; bus = n } ≡ reset_as
 reset_as_lem s n e k = rw (e, k.is)
 
 pub result_of : (c : Case) (s : State) (ram rom tape log : List ℕ) (d : Done) (ram' log' out : List ℕ) → Called c s ram rom tape log d ram' log' → out ≡ bytes_of d ram' log'

@@ -1,6 +1,7 @@
 -- What answers a case.
-use Rattle.std.specs.Prelude.{ℕ, ◌/◌, List, ◌≡◌, eqb, length, replicate}
+use Rattle.std.specs.Prelude.{ℕ, ◌/◌, List, ◌≡◌, eqb, length, replicate, Ok}
 use Rattle.sheet.specs.declared.State.{State}
+use Rattle.sheet.specs.Refusals.{number_in}
 use Rattle.sheet.specs.declared.GapRule.{GapRule}
 use Rattle.sheet.specs.declared.Entry.{Entry}
 use Rattle.sheet.specs.Width.{pick}
@@ -21,20 +22,20 @@ abbrev pub steps_of : ℕ → ℕ
 steps_of number = pick (eqb number 0) 1 0
 
 abbrev pub reset_as : Done
-reset_as = record { number = 0; steps = 0; state = definition.reset; bus = nothing }
+reset_as = record { end = Ok tt; steps = 0; state = definition.reset; bus = nothing }
 
 -- the call of a case, of those on the machine
 pub record Called (c : Case) (s : State) (ram rom tape log : List ℕ) (d : Done) (ram' log' : List ℕ) : Type 0 where
-  pub step : c.call ≡ Step → (d.steps ≡ steps_of d.number) × Steps s ram rom tape log d.number d.state ram' log' d.bus
-  pub run : c.call ≡ Run → Runs c.budget s ram rom tape log d.number d.state ram' log' d.steps d.bus
-  pub interrupt : c.call ≡ Interrupt → (d.steps ≡ 0) × (log' ≡ log) × Interrupts c.vector c.maskable s ram rom tape log d.number d.state ram' d.bus
-  pub quick : c.call ≡ Quick → Runs c.budget s ram rom tape log d.number d.state ram' log' d.steps d.bus
+  pub step : c.call ≡ Step → (d.steps ≡ steps_of (number_in d.end)) × Steps s ram rom tape log (number_in d.end) d.state ram' log' d.bus
+  pub run : c.call ≡ Run → Runs c.budget s ram rom tape log (number_in d.end) d.state ram' log' d.steps d.bus
+  pub interrupt : c.call ≡ Interrupt → (d.steps ≡ 0) × (log' ≡ log) × Interrupts c.vector c.maskable s ram rom tape log (number_in d.end) d.state ram' d.bus
+  pub quick : c.call ≡ Quick → Runs c.budget s ram rom tape log (number_in d.end) d.state ram' log' d.steps d.bus
   pub reset : c.call ≡ Reset → (d ≡ reset_as) × (ram' ≡ ram) × (log' ≡ log)
 
 -- the bytes for what a call came to, with the sums of RAM and log after it
 unfoldable pub bytes_of : Done → List ℕ → List ℕ → List ℕ
 bytes_of d ram log =
-    result_of d.number d.steps d.bus d.state (sum_of 2166136261 ram) (sum_of 2166136261 log)
+    result_of (number_in d.end) d.steps d.bus d.state (sum_of 2166136261 ram) (sum_of 2166136261 log)
 
 -- a result: the bytes for what the call comes to
 pub record Result (c : Case) (s : State) (ram rom tape log ram' log' out : List ℕ) : Type 0 where

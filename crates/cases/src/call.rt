@@ -1,102 +1,72 @@
 // What a case asks for: its buffers laid out, its call made, and the bytes of the result.
 ghost use Rattle.std.specs.Prelude.{◌≡◌};
-ghost use Rattle.step_answer.specs.Lent.{StepsOn, RunsOn, InterruptsOn};
-ghost use Rattle.cases.specs.Called.{steps_of, reset_as, bytes_of, laid, Reading};
+ghost use Rattle.sheet.specs.Refusals.{number_in};
+ghost use Rattle.cases.specs.Answered.{answered_as, ran_as};
+ghost use Rattle.cases.specs.Called.{reset_as, bytes_of, laid, Reading};
 ghost use Rattle.cases.specs.Lent.{CalledOn, ResultOn};
 
 use case_form::{Call, Case};
-use sheet::{Bus, GapRule, State};
+use sheet::{Bus, GapRule, Refusal, State};
+use step_answer::{Answer, Ran};
 
-// What the calls on the machine come to.
+// What a call on the machine comes to: how it ended, the steps that it did, the state and the bus.
 #[derive(Clone, Copy)]
 struct Done {
-    pub number: u8,
+    pub end: Result<(), Refusal>,
     pub steps: u32,
     pub state: State,
     pub bus: Bus,
 }
 
-// How many steps a step with this answer did.
-fn steps_of(number: u8) -> u32
-    ensures { result ≡ steps_of number }
+// Document 01's number for how a call ended.
+fn number(end: Result<(), Refusal>) -> u8
+    ensures { result ≡ number_in end }
 {
-    if number == 0 { 1 } else { 0 }
-}
-
-fn stepped(s: State, ram: &mut [u8], rom: &[u8], tape: &[u8], log: &mut [u8]) -> Done
-    ensures steps_value { result.steps ≡ steps_of result.number }
-    ensures steps_on { StepsOn s ram rom tape log result.number result.state result.bus }
-{
-    let a = engine::step(s, ram, rom, tape, log);
-    let state = a.state;
-    let bus = a.bus;
-    Done {
-        number: a.number,
-        steps: steps_of(a.number),
-        state,
-        bus,
+    match end {
+        Ok(()) => 0,
+        Err(refusal) => refusal.number(),
     }
 }
 
-fn ran(s: State, ram: &mut [u8], rom: &[u8], tape: &[u8], log: &mut [u8], budget: u16) -> Done
-    ensures { RunsOn budget s ram rom tape log result.number result.state result.steps result.bus }
+// What comes of an answer to a call at a state, and of the steps that it did.
+fn answered(s: State, a: Result<Answer, Refusal>, steps: u32) -> Done
+    ensures { result ≡ answered_as s a steps }
 {
-    let a = engine::run(s, ram, rom, tape, log, budget);
-    let state = a.state;
-    let bus = a.bus;
-    Done {
-        number: a.number,
-        steps: a.steps as u32,
-        state,
-        bus,
+    match a {
+        Ok(Answer { state, bus }) => Done {
+            end: Ok(()),
+            steps,
+            state,
+            bus,
+        },
+        Err(refusal) => Done {
+            end: Err(refusal),
+            steps,
+            state: s,
+            bus: mach_tally::none(),
+        },
     }
 }
 
-fn quickly(s: State, ram: &mut [u8], rom: &[u8], tape: &[u8], log: &mut [u8], budget: u16) -> Done
-    ensures { RunsOn budget s ram rom tape log result.number result.state result.steps result.bus }
+// What comes of a run.
+fn ran(r: Ran) -> Done
+    ensures { result ≡ ran_as r }
 {
-    let a = quick_run::run(s, ram, rom, tape, log, budget);
-    let state = a.state;
-    let bus = a.bus;
     Done {
-        number: a.number,
-        steps: a.steps as u32,
-        state,
-        bus,
-    }
-}
-
-fn interrupted(
-    s: State,
-    ram: &mut [u8],
-    rom: &[u8],
-    tape: &[u8],
-    log: &[u8],
-    vector: u8,
-    maskable: bool,
-) -> Done
-    ensures steps_value { result.steps ≡ 0 }
-    ensures interrupts_on { InterruptsOn vector maskable s ram rom tape log result.number result.state result.bus }
-{
-    let a = step_calls::interrupt(s, ram, rom, tape, log, vector, maskable);
-    let state = a.state;
-    let bus = a.bus;
-    Done {
-        number: a.number,
-        steps: 0,
-        state,
-        bus,
+        end: r.end,
+        steps: u32::from(r.steps),
+        state: r.state,
+        bus: r.bus,
     }
 }
 
 fn reset() -> Done
     ensures { result ≡ reset_as }
 {
-    let state = step_calls::reset();
     Done {
-        number: 0,
+        end: Ok(()),
         steps: 0,
-        state,
+        state: step_calls::reset(),
         bus: mach_tally::none(),
     }
 }
@@ -105,14 +75,18 @@ fn reset() -> Done
 fn called(s: State, ram: &mut [u8], rom: &[u8], tape: &[u8], log: &mut [u8], c: Case) -> Done
     ensures { CalledOn c s ram rom tape log result }
 {
-    let call = c.call;
-    match call {
-        Call::Step => stepped(s, ram, rom, tape, log),
-        Call::Run => ran(s, ram, rom, tape, log, c.budget),
-        Call::Interrupt => interrupted(s, ram, rom, tape, log, c.vector, c.maskable),
-        Call::Reset => reset(),
-        Call::ReadLog => reset(),
-        Call::Quick => quickly(s, ram, rom, tape, log, c.budget),
+    match c.call {
+        Call::Step => {
+            let a = engine::step(s, ram, rom, tape, log);
+            answered(s, a, u32::from(a.is_ok()))
+        }
+        Call::Run => ran(engine::run(s, ram, rom, tape, log, c.budget)),
+        Call::Interrupt => {
+            let a = step_calls::interrupt(s, ram, rom, tape, log, c.vector, c.maskable);
+            answered(s, a, 0)
+        }
+        Call::Reset | Call::ReadLog => reset(),
+        Call::Quick => ran(quick_run::run(s, ram, rom, tape, log, c.budget)),
     }
 }
 
@@ -120,11 +94,9 @@ fn called(s: State, ram: &mut [u8], rom: &[u8], tape: &[u8], log: &mut [u8], c: 
 fn bytes_of(d: Done, ram: &[u8], log: &[u8]) -> [u8; 88]
     ensures { result ≡ bytes_of d ram.now log.now }
 {
-    let state = d.state;
-    let bus = d.bus;
     let of_ram = case_bytes::sum(ram);
     let of_log = case_bytes::sum(log);
-    case_form::result_of(d.number, d.steps, bus, state, of_ram, of_log)
+    case_form::result_of(number(d.end), d.steps, d.bus, d.state, of_ram, of_log)
 }
 
 // The bytes that answer such a call.
@@ -156,6 +128,6 @@ pub fn reading(log: &[u8], at: usize, rule: GapRule) -> [u8; 17]
 pub fn lay_out(buffer: &mut [u8], fill: u8, kind: u8, patches: &[u8])
     ensures { buffer.new ≡ laid buffer.old fill kind patches.now }
 {
-    case_bytes::fill(buffer, fill);
-    case_bytes::patch_all(buffer, kind, patches, patches.len() / 6);
+    buffer.fill(fill);
+    case_bytes::patch_all(buffer, kind, patches);
 }

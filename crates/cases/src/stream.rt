@@ -3,13 +3,25 @@ use case_form::{Call, Case};
 use sheet::State;
 use std::io::Print;
 
-// An array's length is known where it is lent as one.
-fn write_result(rt: HostRuntime, out: &[u8; 88]) -> bool {
-    rt.stdout().write_all(out).is_ok()
+// Why the stream ends: no further case, or one that is cut off; a case that breaks its rules; a result that cannot be written.
+#[derive(Clone, Copy)]
+enum End {
+    Input,
+    Unfit,
+    Output,
 }
 
-fn write_reading(rt: HostRuntime, out: &[u8; 17]) -> bool {
-    rt.stdout().write_all(out).is_ok()
+fn write(rt: HostRuntime, out: &[u8]) -> Result<(), End> {
+    rt.stdout().write_all(out).map_err(|_| End::Output)
+}
+
+// Fills a buffer from standard input.
+fn read_whole(rt: HostRuntime, buffer: &mut [u8]) -> Result<(), End> {
+    if base_input::read_full(&mut rt.stdin(), buffer) == buffer.len() {
+        Ok(())
+    } else {
+        Err(End::Input)
+    }
 }
 
 fn answer(
@@ -20,73 +32,31 @@ fn answer(
     tape: &[u8],
     log: &mut [u8],
     c: Case,
-) -> bool {
-    let call = c.call;
-    if let Call::ReadLog = call {
-        let rule = c.rule;
-        let out = crate::call::reading(log, s.progress.log, rule);
-        write_reading(rt, &out)
+) -> Result<(), End> {
+    if let Call::ReadLog = c.call {
+        write(rt, &crate::call::reading(log, s.progress.log, c.rule))
     } else {
-        let out = crate::call::result(s, ram, rom, tape, log, c);
-        write_result(rt, &out)
+        write(rt, &crate::call::result(s, ram, rom, tape, log, c))
     }
 }
 
-// Whether standard input had as many bytes as the buffer.
-fn read_whole(rt: HostRuntime, buffer: &mut [u8]) -> bool {
-    base_input::read_full(&mut rt.stdin(), buffer) == buffer.len()
-}
-
-// The rest of a case, over buffers of the lengths that it names.
+// One case, over buffers that are as long as the longest needs. They are no struct: five fields of one that are lent at once get no proof.
 fn serve(
     rt: HostRuntime,
-    s: State,
     ram: &mut [u8],
     rom: &mut [u8],
     tape: &mut [u8],
     log: &mut [u8],
     patches: &mut [u8],
-    c: Case,
-) -> bool {
-    if !read_whole(rt, patches) {
-        return false;
+) -> Result<(), End> {
+    let mut header = [0; 72];
+    read_whole(rt, &mut header)?;
+    if !case_form::good_header(&header) {
+        return Err(End::Unfit);
     }
-    if !read_whole(rt, tape) {
-        return false;
-    }
-    if !case_bytes::kinds(patches, patches.len() / 6) {
-        return unfit(rt);
-    }
-    crate::call::lay_out(ram, c.fill, 0, patches);
-    crate::call::lay_out(rom, c.fill, 1, patches);
-    crate::call::lay_out(log, c.fill, 2, patches);
-    answer(rt, s, ram, rom, tape, log, c)
-}
-
-fn unfit(rt: HostRuntime) -> bool {
-    let _ = rt
-        .stderr()
-        .write_all(b"cases: the stream ends here: a case breaks its rules\n");
-    false
-}
-
-// The case of a header, unless it does not fit the buffers.
-fn lend(
-    rt: HostRuntime,
-    s: State,
-    ram: &mut [u8],
-    rom: &mut [u8],
-    tape: &mut [u8],
-    log: &mut [u8],
-    patches: &mut [u8],
-    c: Case,
-) -> bool {
-    let m = c.ram;
-    let n = c.rom;
-    let t = c.tape;
-    let l = c.log;
-    let p = c.patches;
-    if case_form::fits(
+    let c = case_form::case_of(&header);
+    let s = case_form::state_of(&header);
+    if !case_form::fits(
         c,
         ram.len(),
         rom.len(),
@@ -94,75 +64,46 @@ fn lend(
         log.len(),
         patches.len(),
     ) {
-        return serve(
-            rt,
-            s,
-            &mut ram[..m],
-            &mut rom[..n],
-            &mut tape[..t],
-            &mut log[..l],
-            &mut patches[..p * 6],
-            c,
-        );
+        return Err(End::Unfit);
     }
-    unfit(rt)
-}
-
-// One case; whether to go on.
-fn one(
-    rt: HostRuntime,
-    ram: &mut [u8],
-    rom: &mut [u8],
-    tape: &mut [u8],
-    log: &mut [u8],
-    patches: &mut [u8],
-) -> bool {
-    let mut header = [0; 72];
-    if !read_whole(rt, &mut header) {
-        return false;
+    let ram = &mut ram[..c.ram];
+    let rom = &mut rom[..c.rom];
+    let tape = &mut tape[..c.tape];
+    let log = &mut log[..c.log];
+    let patches = &mut patches[..c.patches * 6];
+    read_whole(rt, patches)?;
+    read_whole(rt, tape)?;
+    if !case_bytes::kinds(patches) {
+        return Err(End::Unfit);
     }
-    if !case_form::good_header(&header) {
-        return unfit(rt);
-    }
-    let c = case_form::case_of(&header);
-    let s = case_form::state_of(&header);
-    lend(rt, s, ram, rom, tape, log, patches, c)
+    crate::call::lay_out(ram, c.fill, 0, patches);
+    crate::call::lay_out(rom, c.fill, 1, patches);
+    crate::call::lay_out(log, c.fill, 2, patches);
+    answer(rt, s, ram, rom, tape, log, c)
 }
 
-// A proved loop has to end, and nothing says that the input does: no run uses up so many turns.
-fn all(
-    rt: HostRuntime,
-    ram: &mut [u8],
-    rom: &mut [u8],
-    tape: &mut [u8],
-    log: &mut [u8],
-    patches: &mut [u8],
-) {
-    for _ in 0..u64::MAX {
-        if !one(rt, ram, rom, tape, log, patches) {
-            return;
-        }
-    }
-}
-
-// The buffers come from functions: of a call's result the length is known, and no check computes its elements.
-fn memory() -> [u8; 1048577] {
-    [0; 1048577]
-}
-
-fn few_bytes() -> [u8; 4096] {
-    [0; 4096]
-}
-
-fn patch_bytes() -> [u8; 24576] {
-    [0; 24576]
+// A buffer comes from a function: of a call's result the length is known, and no check computes its elements.
+fn bytes<const N: usize>() -> [u8; N] {
+    [0; N]
 }
 
 pub fn run(rt: HostRuntime) {
-    let mut ram = memory();
-    let mut rom = memory();
-    let mut tape = few_bytes();
-    let mut log = few_bytes();
-    let mut patches = patch_bytes();
-    all(rt, &mut ram, &mut rom, &mut tape, &mut log, &mut patches);
+    let mut ram: [u8; 1048577] = bytes();
+    let mut rom: [u8; 1048577] = bytes();
+    let mut tape: [u8; 4096] = bytes();
+    let mut log: [u8; 4096] = bytes();
+    let mut patches: [u8; 24576] = bytes();
+    // a proved loop has to end, and nothing says that the input does: no run uses up so many turns
+    for _ in 0..u64::MAX {
+        match serve(rt, &mut ram, &mut rom, &mut tape, &mut log, &mut patches) {
+            Ok(()) => {}
+            Err(End::Unfit) => {
+                let _ = rt
+                    .stderr()
+                    .write_all(b"cases: the stream ends here: a case breaks its rules\n");
+                return;
+            }
+            Err(End::Input | End::Output) => return,
+        }
+    }
 }

@@ -6,131 +6,101 @@ ghost use Rattle.sheet.specs.declared.Instr.TheVariants.{Multiplies, Interrupts}
 ghost use Rattle.sheet.specs.declared.Multiply.TheVariants.{MulByte, MulWord};
 ghost use Rattle.sheet.specs.declared.Interrupt.TheVariants.{Chkind};
 ghost use Rattle.sheet.specs.Width.{pick};
-ghost use Rattle.code_answer.specs.Lent.{lent_code};
 ghost use Rattle.sheet.specs.FirstByte.{with_place, with_memory, with_word, with_short, bytes40};
 ghost use Rattle.code_answer.specs.Answer.{Decodes, Names};
+ghost use Rattle.code_bytes.specs.Lent.{lent_code};
 
-use code_answer::Decoded;
+use code_answer::{Decoded, known};
+use code_bytes::Reader;
 use sheet::{
-    Arithmetic, Conditional, Interrupt, Multiply, Place, Prefixes, Primitive, Stack, Unary,
+    Arithmetic, Conditional, Interrupt, Multiply, Place, Primitive, Refusal, Stack, Unary,
 };
 
-fn chkind(ram: &[u8], rom: &[u8], ps: u16, pc: u16, p: Prefixes, i: u16) -> Decoded
-    requires { i ≤ 4 }
-    ensures { Decodes (with_memory p (λ reg a. Interrupts (Chkind reg a))) (lent_code ram rom ps pc) i result }
+fn chkind(r: Reader) -> Result<Decoded, Refusal>
+    ensures { Decodes (with_memory r.entry.prefixes (λ reg a. Interrupts (Chkind reg a))) (lent_code r.entry.code) r.entry.read result }
 {
-    let o = code_operand::operands(ram, rom, ps, pc, p, i);
-    let place = o.place;
-    let from = match place {
-        Place::Memory(from) => from,
-        Place::Register(n) => return Decoded::Unknown { number: 3 },
-    };
-    code_answer::interrupts(
-        Interrupt::Chkind {
-            reg: o.reg,
-            from: from,
-        },
-        o.next,
-    )
+    let o = code_operand::operands(r);
+    let from = o.memory()?;
+    known(Interrupt::Chkind { reg: o.reg, from }, o.next)
 }
 
 // By a word, or by a byte with its sign.
-fn multiply(ram: &[u8], rom: &[u8], ps: u16, pc: u16, p: Prefixes, word: bool, i: u16) -> Decoded
-    requires { i ≤ 4 }
+fn multiply(r: Reader, word: bool) -> Result<Decoded, Refusal>
     ensures { Decodes
-        (with_place p (λ reg a. pick word (with_word (λ v. Multiplies (MulWord reg a v))) (with_short (λ v. Multiplies (MulByte reg a v)))))
-        (lent_code ram rom ps pc) i result }
+        (with_place r.entry.prefixes (λ reg a. pick word (with_word (λ v. Multiplies (MulWord reg a v))) (with_short (λ v. Multiplies (MulByte reg a v)))))
+        (lent_code r.entry.code) r.entry.read result }
 {
-    let o = code_operand::operands(ram, rom, ps, pc, p, i);
-    let place = o.place;
+    let o = code_operand::operands(r);
     if word {
-        let v = code_bytes::code_word(ram, rom, ps, pc, o.next);
-        return code_answer::multiplies(
+        return known(
             Multiply::MulWord {
                 reg: o.reg,
-                from: place,
-                by: v,
+                from: o.place,
+                by: r.code.word(o.next),
             },
             o.next + 2,
         );
     }
-    let v = code_bytes::code_short(ram, rom, ps, pc, o.next);
-    code_answer::multiplies(
+    known(
         Multiply::MulByte {
             reg: o.reg,
-            from: place,
-            by: v,
+            from: o.place,
+            by: r.code.short(o.next),
         },
         o.next + 1,
     )
 }
 
-fn codes60(ram: &[u8], rom: &[u8], ps: u16, pc: u16, p: Prefixes, b: u8, i: u16) -> Decoded
-    requires { (0x60 ≤ b) × ((b < 0x70) × (i ≤ 4)) }
-    ensures { Names (bytes40 p) b (lent_code ram rom ps pc) i result }
+fn codes60(r: Reader, b: u8) -> Result<Decoded, Refusal>
+    requires { (0x60 ≤ b) × (b < 0x70) }
+    ensures { Names (bytes40 r.entry.prefixes) b (lent_code r.entry.code) r.entry.read result }
 {
-    if 0x6e <= b {
-        return code_operand::block(p, Primitive::Outm, b, i);
-    }
-    if 0x6c <= b {
-        return code_operand::block(p, Primitive::Inm, b, i);
-    }
-    if b < 0x62 {
-        let group = if b == 0x60 { Stack::PushR } else { Stack::PopR };
-        return code_answer::stacks(group, i);
-    }
     match b {
-        0x62 => chkind(ram, rom, ps, pc, p, i),
-        0x68 => code_answer::stacks(
-            Stack::PushWord {
-                value: code_bytes::code_word(ram, rom, ps, pc, i),
-            },
-            i + 2,
-        ),
-        0x69 => multiply(ram, rom, ps, pc, p, true, i),
-        0x6a => code_answer::stacks(
-            Stack::PushByte {
-                value: code_bytes::code_short(ram, rom, ps, pc, i),
-            },
-            i + 1,
-        ),
-        0x6b => multiply(ram, rom, ps, pc, p, false, i),
-        _ => Decoded::Unknown { number: 3 },
+        0x60 => known(Stack::PushR, r.read),
+        0x61 => known(Stack::PopR, r.read),
+        0x62 => chkind(r),
+        0x68 => known(Stack::PushWord { value: r.word() }, r.read + 2),
+        0x69 => multiply(r, true),
+        0x6a => known(Stack::PushByte { value: r.short() }, r.read + 1),
+        0x6b => multiply(r, false),
+        0x6c | 0x6d => code_operand::block(r, Primitive::Inm, b),
+        0x6e | 0x6f => code_operand::block(r, Primitive::Outm, b),
+        _ => Err(Refusal::UnknownInstruction),
     }
 }
 
-pub fn codes40(ram: &[u8], rom: &[u8], ps: u16, pc: u16, p: Prefixes, b: u8, i: u16) -> Decoded
-    requires { (0x40 ≤ b) × ((b < 0x80) × (i ≤ 4)) }
-    ensures { Names (bytes40 p) b (lent_code ram rom ps pc) i result }
+pub fn codes40(r: Reader, b: u8) -> Result<Decoded, Refusal>
+    requires { (0x40 ≤ b) × (b < 0x80) }
+    ensures { Names (bytes40 r.entry.prefixes) b (lent_code r.entry.code) r.entry.read result }
 {
+    let reg = Place::Register(b % 8);
     if b < 0x50 {
         let op = if b < 0x48 { Unary::Inc } else { Unary::Dec };
-        return code_answer::calculates(
+        return known(
             Arithmetic::One {
-                op: op,
+                op,
                 word: true,
-                to: Place::Register(b % 8),
+                to: reg,
             },
-            i,
+            r.read,
         );
     }
     if b < 0x60 {
-        let reg = Place::Register(b % 8);
         let group = if b < 0x58 {
             Stack::Push { from: reg }
         } else {
             Stack::Pop { to: reg }
         };
-        return code_answer::stacks(group, i);
+        return known(group, r.read);
     }
     if b < 0x70 {
-        return codes60(ram, rom, ps, pc, p, b, i);
+        return codes60(r, b);
     }
-    code_answer::tests(
+    known(
         Conditional::If {
             condition: b % 16,
-            disp: code_bytes::code_short(ram, rom, ps, pc, i),
+            disp: r.short(),
         },
-        i + 1,
+        r.read + 1,
     )
 }

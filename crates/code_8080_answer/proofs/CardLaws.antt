@@ -1,6 +1,6 @@
--- How an answer follows from those of the parts that a reading of the 8080 mode has, and what stands at a table's end.
+-- Readings of the 8080 mode: a test, a number that follows; and what stands at a table's end.
 use Prim.Native.Nat.{ℕ, zero, suc, ◌≤◌}
-use mathlib.Core.Path.{◌≡◌, refl, sym, ◌∙◌, ap}
+use mathlib.Core.Path.{◌≡◌, refl, sym}
 use mathlib.Core.Bool.{Bool, true, false}
 use mathlib.Core.List.{List, [], ◌∷◌, ◌++◌}
 use native.Mathlib.Omega.{arith}
@@ -8,46 +8,31 @@ use lib.ListN.{length, get_or}
 use Rattle.sheet.specs.declared.Place.TheVariants.{Register}
 use Rattle.sheet.specs.declared.Operation.TheVariants.{Add, Or, Addc, Subc, And, Sub, Xor, Cmp}
 use Rattle.sheet.specs.declared.cards.Card.{Card}
-use Rattle.sheet.specs.Reading.{Reading, got, no, ◌>>=◌, scan, byte, word}
+use Rattle.sheet.specs.Reading.{Reading, byte, word}
 use Rattle.sheet.specs.Width.{pick}
 use Rattle.sheet.specs.Registers.{CW, DW, BW, BP, AL, CL}
 use Rattle.sheet.specs.CardPlaces.{DL, BL, CH, DH, BH, M, operand_at, card_pair_at, condition_at}
 use Rattle.sheet.specs.CardCodes.{card_byte, card_word, card_operation_at}
 use Rattle.sheet.specs.Contract.{Reads}
-use Rattle.sheet.proofs.ReadingLaws.{scan_bind}
-use Rattle.code_8080_answer.specs.declared.CardDecoded.{CardDecoded}
-use Rattle.code_8080_answer.specs.declared.CardDecoded.TheVariants.{Known, Unknown}
-use Rattle.code_8080_answer.specs.CardAnswer.{card_answer_of, CardDecodes}
+use Rattle.code_answer.specs.Answer.{Answer, known_as, Decodes}
+use Rattle.code_answer.proofs.DecodesLaws.{decodes_known, decodes_seq}
 
-module _ {src : ℕ → ℕ} {i : ℕ} where
-  -- nothing follows
-  pub card_known : {c : Card} {r : CardDecoded} → r ≡ Known c i → CardDecodes (got c) src i r
-  unfolding scan
-  card_known e = rw e (record { is = refl })
-
-  pub card_no : {n : ℕ} → CardDecodes (no n) src i (Unknown n)
-  unfolding scan
-  card_no = record { is = refl }
-
-  pub card_seq : {A : Type 0} {p : Reading A} (f : A → Reading Card) {j : ℕ} {a : A} {r : CardDecoded} → Reads A p src i a j → CardDecodes (f a) src j r → CardDecodes (p >>= f) src i r
-  card_seq {p = p} f x y = record { is = ap card_answer_of (scan_bind p f src i) ∙ rw (x.is, y.is) }
-
+module _ {src : ℕ → ℕ} {i : ℕ} (p q : Reading Card) {b : Bool} {r : Answer Card} where
   -- a test that is known
-  module _ (p q : Reading Card) {b : Bool} {r : CardDecoded} where
-    pub card_true : b ≡ true → CardDecodes p src i r → CardDecodes (pick b p q) src i r
-    card_true e x = rw e x
+  pub card_true : b ≡ true → Decodes p src i r → Decodes (pick b p q) src i r
+  card_true e x = rw e x
 
-    pub card_false : b ≡ false → CardDecodes q src i r → CardDecodes (pick b p q) src i r
-    card_false e x = rw e x
+  pub card_false : b ≡ false → Decodes q src i r → Decodes (pick b p q) src i r
+  card_false e x = rw e x
 
-module _ {src : ℕ → ℕ} {i j v : ℕ} {r : CardDecoded} (k : ℕ → Card) where
-  pub card_byte_lem : Reads ℕ byte src i v j → r ≡ Known (k v) j → CardDecodes (card_byte k) src i r
+module _ {src : ℕ → ℕ} {i j v : ℕ} {r : Answer Card} (k : ℕ → Card) where
+  pub card_byte_lem : Reads ℕ byte src i v j → r ≡ known_as (k v) j → Decodes (card_byte k) src i r
   unfolding card_byte
-  card_byte_lem x e = card_seq _ x (card_known e)
+  card_byte_lem x e = decodes_seq _ x (decodes_known e)
 
-  pub card_word_lem : Reads ℕ word src i v j → r ≡ Known (k v) j → CardDecodes (card_word k) src i r
+  pub card_word_lem : Reads ℕ word src i v j → r ≡ known_as (k v) j → Decodes (card_word k) src i r
   unfolding card_word
-  card_word_lem x e = card_seq _ x (card_known e)
+  card_word_lem x e = decodes_seq _ x (decodes_known e)
 
 -- a table whose last entry is also what stands beyond its end
 pub last_or_past : {A : Type 0} (l : List A) (x : A) (n : ℕ) → length l ≤ n → get_or (l ++ (x ∷ [])) n x ≡ x

@@ -2,92 +2,72 @@
 #![tactic(auto)]
 
 ghost use Rattle.std.specs.Prelude.{◌≤◌, ◌<◌};
-ghost use Rattle.code_answer.specs.Lent.{lent_code};
 ghost use Rattle.sheet.specs.FirstByte.{bytes80};
 ghost use Rattle.code_answer.specs.Answer.{Names};
+ghost use Rattle.code_bytes.specs.Lent.{lent_code};
 
-use code_answer::Decoded;
+use code_answer::{ACC, Decoded, known};
+use code_bytes::Reader;
 use sheet::{
-    Arithmetic, Branch, Control, Convert, Mode, Place, Prefixes, Primitive, Source, Stack, Transfer,
+    Arithmetic, Branch, Control, Convert, Mode, Place, Primitive, Refusal, Source, Stack, Transfer,
 };
 
-// The number of AW and AL.
-const ACC: u8 = 0;
-
-fn codes98(ram: &[u8], rom: &[u8], ps: u16, pc: u16, p: Prefixes, b: u8, i: u16) -> Decoded
-    requires { (0x98 ≤ b) × ((b < 0xa0) × (i ≤ 4)) }
-    ensures { Names (bytes80 p) b (lent_code ram rom ps pc) i result }
+fn codes98(r: Reader, b: u8) -> Result<Decoded, Refusal>
+    requires { (0x98 ≤ b) × (b < 0xa0) }
+    ensures { Names (bytes80 r.entry.prefixes) b (lent_code r.entry.code) r.entry.read result }
 {
-    if b < 0x9a {
-        let group = if b == 0x98 {
-            Convert::Cvtbw
-        } else {
-            Convert::Cvtwl
-        };
-        return code_answer::converts(group, i);
+    match b {
+        0x98 => known(Convert::Cvtbw, r.read),
+        0x99 => known(Convert::Cvtwl, r.read),
+        0x9a => {
+            let to = r.far();
+            known(
+                Branch::CallFar {
+                    ps: to.segment,
+                    pc: to.offset,
+                },
+                r.read + 4,
+            )
+        }
+        0x9b => Err(Refusal::UnknownInstruction),
+        0x9c => known(Stack::PushPsw, r.read),
+        0x9d => known(Mode::PopPsw, r.read),
+        0x9e => known(Transfer::PswFromAh, r.read),
+        _ => known(Transfer::AhFromPsw, r.read),
     }
-    if b == 0x9a {
-        let to = code_bytes::code_far(ram, rom, ps, pc, i);
-        return code_answer::branches(
-            Branch::CallFar {
-                ps: to.segment,
-                pc: to.offset,
-            },
-            i + 4,
-        );
-    }
-    if b == 0x9b {
-        return Decoded::Unknown { number: 3 };
-    }
-    if b == 0x9c {
-        return code_answer::stacks(Stack::PushPsw, i);
-    }
-    if b == 0x9d {
-        return code_answer::modes(Mode::PopPsw, i);
-    }
-    let group = if b == 0x9e {
-        Transfer::PswFromAh
-    } else {
-        Transfer::AhFromPsw
-    };
-    code_answer::transfers(group, i)
 }
 
 // A0 to A3: the accumulator and a byte or word at a 16-bit address.
-fn acc_memory(ram: &[u8], rom: &[u8], ps: u16, pc: u16, p: Prefixes, b: u8, i: u16) -> Decoded
-    requires { (0xa0 ≤ b) × ((b < 0xa4) × (i ≤ 4)) }
-    ensures { Names (bytes80 p) b (lent_code ram rom ps pc) i result }
+fn acc_memory(r: Reader, b: u8) -> Result<Decoded, Refusal>
+    requires { (0xa0 ≤ b) × (b < 0xa4) }
+    ensures { Names (bytes80 r.entry.prefixes) b (lent_code r.entry.code) r.entry.read result }
 {
-    let offset = code_bytes::code_word(ram, rom, ps, pc, i);
-    let address = code_operand::direct(p, offset);
+    let address = code_operand::direct(r.prefixes, r.word());
     let word = b % 2 == 1;
     let group = if b < 0xa2 {
         Transfer::LoadAcc {
-            word: word,
+            word,
             from: address,
         }
     } else {
-        Transfer::StoreAcc {
-            word: word,
-            to: address,
-        }
+        Transfer::StoreAcc { word, to: address }
     };
-    code_answer::transfers(group, i + 2)
+    known(group, r.read + 2)
 }
 
-fn codesa0(ram: &[u8], rom: &[u8], ps: u16, pc: u16, p: Prefixes, b: u8, i: u16) -> Decoded
-    requires { (0xa0 ≤ b) × ((b < 0xb0) × (i ≤ 4)) }
-    ensures { Names (bytes80 p) b (lent_code ram rom ps pc) i result }
+fn codesa0(r: Reader, b: u8) -> Result<Decoded, Refusal>
+    requires { (0xa0 ≤ b) × (b < 0xb0) }
+    ensures { Names (bytes80 r.entry.prefixes) b (lent_code r.entry.code) r.entry.read result }
 {
     if b < 0xa4 {
-        return acc_memory(ram, rom, ps, pc, p, b, i);
+        return acc_memory(r, b);
     }
     if b / 2 == 0x54 {
         let word = b % 2 == 1;
-        let v = code_bytes::code_immediate(ram, rom, ps, pc, word, i);
-        return code_answer::calculates(
+        let v = r.immediate(word);
+        return known(
             Arithmetic::Test {
-                word: word,
+                word,
                 left: Place::Register(ACC),
                 right: Source::Immediate(v.value),
             },
@@ -101,19 +81,19 @@ fn codesa0(ram: &[u8], rom: &[u8], ps: u16, pc: u16, p: Prefixes, b: u8, i: u16)
         0x56 => Primitive::Ldm,
         _ => Primitive::Cmpm,
     };
-    code_operand::block(p, primitive, b, i)
+    code_operand::block(r, primitive, b)
 }
 
 // B0 to BF: a register and an immediate.
-fn load_register(ram: &[u8], rom: &[u8], ps: u16, pc: u16, p: Prefixes, b: u8, i: u16) -> Decoded
-    requires { (0xb0 ≤ b) × ((b < 0xc0) × (i ≤ 4)) }
-    ensures { Names (bytes80 p) b (lent_code ram rom ps pc) i result }
+fn load_register(r: Reader, b: u8) -> Result<Decoded, Refusal>
+    requires { (0xb0 ≤ b) × (b < 0xc0) }
+    ensures { Names (bytes80 r.entry.prefixes) b (lent_code r.entry.code) r.entry.read result }
 {
     let word = 0xb8 <= b;
-    let v = code_bytes::code_immediate(ram, rom, ps, pc, word, i);
-    code_answer::transfers(
+    let v = r.immediate(word);
+    known(
         Transfer::Mov {
-            word: word,
+            word,
             to: Place::Register(b % 8),
             from: Source::Immediate(v.value),
         },
@@ -121,28 +101,28 @@ fn load_register(ram: &[u8], rom: &[u8], ps: u16, pc: u16, p: Prefixes, b: u8, i
     )
 }
 
-pub fn codes90(ram: &[u8], rom: &[u8], ps: u16, pc: u16, p: Prefixes, b: u8, i: u16) -> Decoded
-    requires { (0x90 ≤ b) × ((b < 0xc0) × (i ≤ 4)) }
-    ensures { Names (bytes80 p) b (lent_code ram rom ps pc) i result }
+pub fn codes90(r: Reader, b: u8) -> Result<Decoded, Refusal>
+    requires { (0x90 ≤ b) × (b < 0xc0) }
+    ensures { Names (bytes80 r.entry.prefixes) b (lent_code r.entry.code) r.entry.read result }
 {
-    if b < 0x91 {
-        return code_answer::controls(Control::Nop, i);
+    if b == 0x90 {
+        return known(Control::Nop, r.read);
     }
     if b < 0x98 {
-        return code_answer::transfers(
+        return known(
             Transfer::Xch {
                 word: true,
                 reg: b % 8,
                 with: Place::Register(ACC),
             },
-            i,
+            r.read,
         );
     }
     if b < 0xa0 {
-        return codes98(ram, rom, ps, pc, p, b, i);
+        return codes98(r, b);
     }
     if b < 0xb0 {
-        return codesa0(ram, rom, ps, pc, p, b, i);
+        return codesa0(r, b);
     }
-    load_register(ram, rom, ps, pc, p, b, i)
+    load_register(r, b)
 }

@@ -1,7 +1,7 @@
 -- The answer for one code of a table: by the row that starts at a code, or by none.
-use Prim.Native.Nat.{ℕ, zero, suc, ◌+◌, ◌-◌, ◌≤◌, ◌<◌}
+use Prim.Native.Nat.{ℕ, zero, suc, ◌+◌, ◌≤◌, ◌<◌}
 use mathlib.Core.Path.{◌≡◌, refl, sym, ◌∙◌}
-use mathlib.Core.Logic.{inl, inr}
+use mathlib.Core.Logic.{◌⊎◌, inl, inr}
 use mathlib.Core.Bool.{Bool, true, false, not, ◌&&◌, ◌||◌, and-eq-true_iff}
 use mathlib.Core.List.{List, [], ◌∷◌}
 use native.Mathlib.Omega.{arith}
@@ -11,9 +11,10 @@ use types.Run.{OneOf}
 use Rattle.sheet.specs.Width.{pick}
 use Rattle.sheet.specs.Reading.{no}
 use Rattle.sheet.specs.Encoding.{Row, row, covers, look_up}
-use Rattle.code_answer.specs.declared.Decoded.{Decoded}
-use Rattle.code_answer.specs.declared.Decoded.TheVariants.{Unknown}
-use Rattle.code_answer.specs.Answer.{Decodes, Names}
+use Rattle.std.specs.Prelude.{Err}
+use Rattle.sheet.specs.declared.Instr.{Instr}
+use Rattle.sheet.specs.declared.Refusal.TheVariants.{UnknownInstruction}
+use Rattle.code_answer.specs.Answer.{Answer, Decodes, Names}
 use Rattle.code_answer.proofs.DecodesLaws.{decodes_as, decodes_no}
 
 -- the row that starts at n
@@ -118,15 +119,26 @@ uncovered (r ∷ t) b e = go (covers r b) e (uncovered t b)
 
 module _ {t : List Row} {b : ℕ} {src : ℕ → ℕ} {i : ℕ} where
   -- n is the row's first code
-  pub at_row : (n : ℕ) {r : Decoded} → starts n t ≡ true → n ≤ b → b < n + (row_from n t).many → Decodes ((row_from n t).reads b) src i r → Names t b src i r
+  pub at_row : (n : ℕ) {r : Answer Instr} → starts n t ≡ true → n ≤ b → b < n + (row_from n t).many → Decodes ((row_from n t).reads b) src i r → Names t b src i r
   at_row n e h k x = record { is = decodes_as (row_at t n b e h k) x }
 
   -- a row of one code
-  pub at_one : (n : ℕ) {r : Decoded} → starts n t ≡ true → leb 1 (row_from n t).many ≡ true → b ≡ n → Decodes ((row_from n t).reads b) src i r → Names t b src i r
+  pub at_one : (n : ℕ) {r : Answer Instr} → starts n t ≡ true → leb 1 (row_from n t).many ≡ true → b ≡ n → Decodes ((row_from n t).reads b) src i r → Names t b src i r
   at_one n e s q x = let l = leb-true 1 (row_from n t).many s in at_row n e (omega arith) (omega arith) x
 
+  -- and of two
+  pub at_two : (n : ℕ) {r : Answer Instr} → starts n t ≡ true → leb 2 (row_from n t).many ≡ true → (b ≡ n) ⊎ (b ≡ n + 1) → Decodes ((row_from n t).reads b) src i r → Names t b src i r
+  at_two n e s q x =
+      let l = leb-true 2 (row_from n t).many s in
+      let h : (n ≤ b) × (b < n + 2) = go q in
+      at_row n e h.0 (omega arith) x
+    where
+      go : (b ≡ n) ⊎ (b ≡ n + 1) → (n ≤ b) × (b < n + 2)
+      go (inl z) = (omega arith, omega arith)
+      go (inr z) = (omega arith, omega arith)
+
   -- of n codes from lo on, those that no arm took have no row
-  pub at_rest : (lo n : ℕ) (arms : List (List ℕ)) → every (λ k. among_all arms k || not (covered t k)) lo n ≡ true → Left Unit arms b → lo ≤ b → b < lo + n → Names t b src i (Unknown 3)
+  pub at_rest : (lo n : ℕ) (arms : List (List ℕ)) → every (λ k. among_all arms k || not (covered t k)) lo n ≡ true → Left Unit arms b → lo ≤ b → b < lo + n → Names t b src i (Err UnknownInstruction)
   at_rest lo n arms e x h k =
       let (y, f) = left_over Unit arms b x in
       let g : (among_all arms b || not (covered t b)) ≡ true = every_at (λ k. among_all arms k || not (covered t k)) n lo b e h k in

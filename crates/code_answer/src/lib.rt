@@ -1,148 +1,183 @@
-// What bytes name, by the groups of section 8: one constructor for each that several crates name, since an instruction is a large
-// value to the prover.
+// What bytes name: an instruction, made of one of its groups, and how many bytes it has.
 #![tactic(auto)]
+
+mod cards;
 
 ghost use Rattle.std.specs.Prelude.{◌≡◌};
 ghost use Rattle.sheet.specs.declared.Instr.TheVariants.{Computes, Moves, Multiplies, Interrupts, Ports, Controls, Blocks, Modes};
-ghost use Rattle.sheet.specs.Groups.{Transfers, Calculates, Converts, Stacks, Branches, Tests, Shifts};
-ghost use Rattle.code_answer.specs.declared.Decoded.TheVariants.{Known as KnownIs};
+ghost use Rattle.sheet.specs.Groups.{Transfers, Calculates, Converts, Stacks, Branches, Tests};
+ghost use Rattle.code_answer.specs.Answer.{known_as};
 
 use sheet::{
     Arithmetic, Branch, Compute, Conditional, Control, Convert, Instr, Interrupt, Io, Mode, Move,
-    Multiply, Place, Places, Primitive, Repeat, Shift, Stack, Transfer,
+    Multiply, Primitive, Refusal, Repeat, Stack, Transfer,
 };
 
-// An instruction and how many bytes it has, or the refusal's number.
+// Numbers of segments, as the codes of section 8 have them.
+pub const DS1: u8 = 0;
+
+pub const PS: u8 = 1;
+
+pub const SS: u8 = 2;
+
+pub const DS0: u8 = 3;
+
+// The number of AW and AL.
+pub const ACC: u8 = 0;
+
+// An instruction, of native mode where nothing else is said, and how many bytes it has.
 #[derive(Clone, Copy)]
-pub enum Decoded {
-    Known { instr: Instr, size: u16 },
-    Unknown { number: u8 },
+pub struct Decoded<I = Instr> {
+    pub instr: I,
+    pub size: u16,
 }
 
-// The groups of second bytes are made with it too: no other crate names them.
-pub fn computes(group: Compute, size: u16) -> Decoded
-    ensures { result ≡ KnownIs (Computes group) size }
-{
-    Decoded::Known {
-        instr: Instr::Computes(group),
-        size: size,
+// A group of instructions, each of which is one of all instructions.
+pub trait Group<I> {
+    ghost instr: { Self → I };
+
+    fn instr(self) -> I
+        ensures { result ≡ instr self };
+}
+
+impl Group<Instr> for Instr {
+    ghost instr = { λ i. i };
+
+    fn instr(self) -> Instr {
+        self
     }
 }
 
-fn moves(group: Move, size: u16) -> Decoded
-    ensures { result ≡ KnownIs (Moves group) size }
-{
-    Decoded::Known {
-        instr: Instr::Moves(group),
-        size: size,
+impl Group<Instr> for Compute {
+    ghost instr = { Computes };
+
+    fn instr(self) -> Instr {
+        Instr::Computes(self)
     }
 }
 
-pub fn modes(group: Mode, size: u16) -> Decoded
-    ensures { result ≡ KnownIs (Modes group) size }
-{
-    Decoded::Known {
-        instr: Instr::Modes(group),
-        size: size,
+impl Group<Instr> for Move {
+    ghost instr = { Moves };
+
+    fn instr(self) -> Instr {
+        Instr::Moves(self)
     }
 }
 
-pub fn transfers(group: Transfer, size: u16) -> Decoded
-    ensures { result ≡ KnownIs (Transfers group) size }
-{
-    moves(Move::Transfers(group), size)
-}
+impl Group<Instr> for Transfer {
+    ghost instr = { Transfers };
 
-pub fn calculates(group: Arithmetic, size: u16) -> Decoded
-    ensures { result ≡ KnownIs (Calculates group) size }
-{
-    computes(Compute::Calculates(group), size)
-}
-
-pub fn multiplies(group: Multiply, size: u16) -> Decoded
-    ensures { result ≡ KnownIs (Multiplies group) size }
-{
-    Decoded::Known {
-        instr: Instr::Multiplies(group),
-        size: size,
+    fn instr(self) -> Instr {
+        Instr::Moves(Move::Transfers(self))
     }
 }
 
-pub fn converts(group: Convert, size: u16) -> Decoded
-    ensures { result ≡ KnownIs (Converts group) size }
-{
-    computes(Compute::Converts(group), size)
-}
+impl Group<Instr> for Arithmetic {
+    ghost instr = { Calculates };
 
-pub fn stacks(group: Stack, size: u16) -> Decoded
-    ensures { result ≡ KnownIs (Stacks group) size }
-{
-    moves(Move::Stacks(group), size)
-}
-
-pub fn branches(group: Branch, size: u16) -> Decoded
-    ensures { result ≡ KnownIs (Branches group) size }
-{
-    moves(Move::Branches(group), size)
-}
-
-pub fn tests(group: Conditional, size: u16) -> Decoded
-    ensures { result ≡ KnownIs (Tests group) size }
-{
-    moves(Move::Tests(group), size)
-}
-
-pub fn interrupts(group: Interrupt, size: u16) -> Decoded
-    ensures { result ≡ KnownIs (Interrupts group) size }
-{
-    Decoded::Known {
-        instr: Instr::Interrupts(group),
-        size: size,
+    fn instr(self) -> Instr {
+        Instr::Computes(Compute::Calculates(self))
     }
 }
 
-pub fn ports(group: Io, size: u16) -> Decoded
-    ensures { result ≡ KnownIs (Ports group) size }
-{
-    Decoded::Known {
-        instr: Instr::Ports(group),
-        size: size,
+impl Group<Instr> for Multiply {
+    ghost instr = { Multiplies };
+
+    fn instr(self) -> Instr {
+        Instr::Multiplies(self)
     }
 }
 
-pub fn controls(group: Control, size: u16) -> Decoded
-    ensures { result ≡ KnownIs (Controls group) size }
-{
-    Decoded::Known {
-        instr: Instr::Controls(group),
-        size: size,
+impl Group<Instr> for Convert {
+    ghost instr = { Converts };
+
+    fn instr(self) -> Instr {
+        Instr::Computes(Compute::Converts(self))
     }
 }
 
-pub fn shifts(kind: Shift, word: bool, to: Place, places: Places, size: u16) -> Decoded
-    ensures { result ≡ KnownIs (Shifts kind word to places) size }
+impl Group<Instr> for Stack {
+    ghost instr = { Stacks };
+
+    fn instr(self) -> Instr {
+        Instr::Moves(Move::Stacks(self))
+    }
+}
+
+impl Group<Instr> for Branch {
+    ghost instr = { Branches };
+
+    fn instr(self) -> Instr {
+        Instr::Moves(Move::Branches(self))
+    }
+}
+
+impl Group<Instr> for Conditional {
+    ghost instr = { Tests };
+
+    fn instr(self) -> Instr {
+        Instr::Moves(Move::Tests(self))
+    }
+}
+
+impl Group<Instr> for Interrupt {
+    ghost instr = { Interrupts };
+
+    fn instr(self) -> Instr {
+        Instr::Interrupts(self)
+    }
+}
+
+impl Group<Instr> for Io {
+    ghost instr = { Ports };
+
+    fn instr(self) -> Instr {
+        Instr::Ports(self)
+    }
+}
+
+impl Group<Instr> for Control {
+    ghost instr = { Controls };
+
+    fn instr(self) -> Instr {
+        Instr::Controls(self)
+    }
+}
+
+impl Group<Instr> for Mode {
+    ghost instr = { Modes };
+
+    fn instr(self) -> Instr {
+        Instr::Modes(self)
+    }
+}
+
+// The answer for bytes that name an instruction: its callers have no local of that type, which is large to the prover.
+pub fn known<I, G: Group<I>>(group: G, size: u16) -> Result<Decoded<I>, Refusal>
+    ensures { result ≡ known_as (G.instr group) size }
 {
-    computes(
-        Compute::Shifts {
-            kind: kind,
-            word: word,
-            to: to,
-            places: places,
+    Ok(Decoded {
+        instr: group.instr(),
+        size,
+    })
+}
+
+pub fn blocks(
+    primitive: Primitive,
+    word: bool,
+    seg: u8,
+    repeat: Repeat,
+    size: u16,
+) -> Result<Decoded, Refusal>
+    ensures { result ≡ known_as (Blocks primitive word seg repeat) size }
+{
+    known(
+        Instr::Blocks {
+            primitive,
+            word,
+            seg,
+            repeat,
         },
         size,
     )
-}
-
-pub fn blocks(primitive: Primitive, word: bool, seg: u8, repeat: Repeat, size: u16) -> Decoded
-    ensures { result ≡ KnownIs (Blocks primitive word seg repeat) size }
-{
-    Decoded::Known {
-        instr: Instr::Blocks {
-            primitive: primitive,
-            word: word,
-            seg: seg,
-            repeat: repeat,
-        },
-        size: size,
-    }
 }

@@ -12,11 +12,12 @@ pub byte_reads : (ram rom : List ℕ) (ps pc i o b : ℕ) → o ≡ add16 pc i �
 byte_reads ram rom ps pc i o b e h = reads_byte (rw e at h)
 
 module _ {src : ℕ → ℕ} {i : ℕ} where
-  pub word_reads : (low high : ℕ) → Reads ℕ byte src i low (i + 1) → Reads ℕ byte src (i + 1) high (i + 1 + 1) → Reads ℕ word src i (low + 256 * high) (i + 2)
+  pub word_reads : (low high v : ℕ) → v ≡ low + high * 256 → Reads ℕ byte src i low (i + 1) → Reads ℕ byte src (i + 1) high (i + 1 + 1) → Reads ℕ word src i v (i + 2)
   unfolding word
-  word_reads low high x y =
+  word_reads low high v e x y =
       let h : Reads ℕ word src i (low + 256 * high) (i + 1 + 1) = reads_seq _ x (reads_seq _ y reads_got) in
-      rw (add_assoc i 1 1) at h
+      let q : v ≡ low + 256 * high = omega (arith, e) in
+      rw q (rw (add_assoc i 1 1) at h)
 
   signed_reads : (b v : ℕ) → Reads ℕ byte src i b (i + 1) → v ≡ extend b → Reads ℕ signed_byte src i v (i + 1)
   unfolding signed_byte

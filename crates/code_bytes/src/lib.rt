@@ -1,11 +1,22 @@
-// Code bytes, one after the other: the source is RAM, ROM, PS and PC, and i says how many were read so far.
+// Code bytes, one after the other.
 #![tactic(auto)]
 
 ghost use Rattle.std.specs.Prelude.{ℕ, ◌+◌, ◌≤◌};
 ghost use Rattle.sheet.specs.Reading.{byte, word as word_read, signed_byte, immediate as immediate_read};
-ghost use Rattle.code_answer.specs.Lent.{lent_code};
+ghost use Rattle.code_bytes.specs.Lent.{lent_code};
 ghost use Rattle.sheet.specs.Contract.{Reads};
 ghost use Rattle.code_answer.specs.Answer.{Takes};
+
+use sheet::Prefixes;
+
+// The code that the decoder is lent: what memory holds from PS:PC on.
+#[derive(Clone, Copy)]
+pub struct Code<'a> {
+    pub ram: &'a [u8],
+    pub rom: &'a [u8],
+    pub ps: u16,
+    pub pc: u16,
+}
 
 // A number that was read, and how many bytes were read then.
 #[derive(Clone, Copy)]
@@ -21,55 +32,100 @@ pub struct FarRead {
     pub segment: u16,
 }
 
-pub fn code_byte(ram: &[u8], rom: &[u8], ps: u16, pc: u16, i: u16) -> u8
-    ensures { Reads ℕ byte (lent_code ram rom ps pc) i result (i + 1) }
-{
-    mach_memory::read_byte(ram, rom, ps, std::num::wrapping_add_u16(pc, i))
-}
-
-// Low byte first.
-pub fn code_word(ram: &[u8], rom: &[u8], ps: u16, pc: u16, i: u16) -> u16
-    requires { i ≤ 8 }
-    ensures { Reads ℕ word_read (lent_code ram rom ps pc) i result (i + 2) }
-{
-    let low = code_byte(ram, rom, ps, pc, i) as u16;
-    let high = code_byte(ram, rom, ps, pc, i + 1) as u16;
-    low + 256 * high
-}
-
-// A byte widened with its sign.
-pub fn code_short(ram: &[u8], rom: &[u8], ps: u16, pc: u16, i: u16) -> u16
-    ensures { Reads ℕ signed_byte (lent_code ram rom ps pc) i result (i + 1) }
-{
-    let b = code_byte(ram, rom, ps, pc, i) as u16;
-    if b < 128 { b } else { b + 65280 }
-}
-
-// An immediate of a width.
-pub fn code_immediate(ram: &[u8], rom: &[u8], ps: u16, pc: u16, word: bool, i: u16) -> NumberRead
-    requires { i ≤ 8 }
-    ensures { Takes ℕ (immediate_read word) (lent_code ram rom ps pc) i result.value result.next 2 }
-{
-    if word {
-        return NumberRead {
-            value: code_word(ram, rom, ps, pc, i),
-            next: i + 2,
-        };
+impl Code<'_> {
+    // The byte after the first i.
+    pub fn byte(self, i: u16) -> u8
+        ensures { Reads ℕ byte (lent_code self.entry) i result (i + 1) }
+    {
+        mach_memory::read_byte(self.ram, self.rom, self.ps, self.pc.wrapping_add(i))
     }
-    NumberRead {
-        value: code_byte(ram, rom, ps, pc, i) as u16,
-        next: i + 1,
+
+    // Low byte first.
+    pub fn word(self, i: u16) -> u16
+        requires { i ≤ 8 }
+        ensures { Reads ℕ word_read (lent_code self.entry) i result (i + 2) }
+    {
+        u16::from_le_bytes([self.byte(i), self.byte(i + 1)])
+    }
+
+    // A byte widened with its sign.
+    pub fn short(self, i: u16) -> u16
+        ensures { Reads ℕ signed_byte (lent_code self.entry) i result (i + 1) }
+    {
+        let b = self.byte(i) as u16;
+        if b < 128 { b } else { b + 65280 }
+    }
+
+    // An immediate of a width.
+    pub fn immediate(self, word: bool, i: u16) -> NumberRead
+        requires { i ≤ 8 }
+        ensures { Takes ℕ (immediate_read word) (lent_code self.entry) i result.value result.next 2 }
+    {
+        if word {
+            return NumberRead {
+                value: self.word(i),
+                next: i + 2,
+            };
+        }
+        NumberRead {
+            value: self.byte(i) as u16,
+            next: i + 1,
+        }
+    }
+
+    // Four bytes: the offset, then the segment.
+    pub fn far(self, i: u16) -> FarRead
+        requires { i ≤ 6 }
+        ensures { Reads ℕ word_read (lent_code self.entry) i result.offset (i + 2)
+            × Reads ℕ word_read (lent_code self.entry) (i + 2) result.segment (i + 4) }
+    {
+        FarRead {
+            offset: self.word(i),
+            segment: self.word(i + 2),
+        }
     }
 }
 
-// Four bytes: the offset, then the segment.
-pub fn code_far(ram: &[u8], rom: &[u8], ps: u16, pc: u16, i: u16) -> FarRead
-    requires { i ≤ 6 }
-    ensures { Reads ℕ word_read (lent_code ram rom ps pc) i result.offset (i + 2)
-        × Reads ℕ word_read (lent_code ram rom ps pc) (i + 2) result.segment (i + 4) }
-{
-    FarRead {
-        offset: code_word(ram, rom, ps, pc, i),
-        segment: code_word(ram, rom, ps, pc, i + 2),
+// Where the decoder of native instructions is: the code, what the prefixes say, and how many bytes were read.
+#[derive(Clone, Copy)]
+pub struct Reader<'a> {
+    pub code: Code<'a>,
+    pub prefixes: Prefixes,
+    pub read: u16,
+    // a prefix or the second byte of a code is the fifth at the latest
+    pub ghost few: { read ≤ 5 },
+}
+
+impl Reader<'_> {
+    // What follows.
+    pub fn byte(self) -> u8
+        ensures { Reads ℕ byte (lent_code self.entry.code) self.entry.read result (self.entry.read + 1) }
+    {
+        self.code.byte(self.read)
+    }
+
+    pub fn word(self) -> u16
+        ensures { Reads ℕ word_read (lent_code self.entry.code) self.entry.read result (self.entry.read + 2) }
+    {
+        self.code.word(self.read)
+    }
+
+    pub fn short(self) -> u16
+        ensures { Reads ℕ signed_byte (lent_code self.entry.code) self.entry.read result (self.entry.read + 1) }
+    {
+        self.code.short(self.read)
+    }
+
+    pub fn immediate(self, word: bool) -> NumberRead
+        ensures { Takes ℕ (immediate_read word) (lent_code self.entry.code) self.entry.read result.value result.next 2 }
+    {
+        self.code.immediate(word, self.read)
+    }
+
+    pub fn far(self) -> FarRead
+        ensures { Reads ℕ word_read (lent_code self.entry.code) self.entry.read result.offset (self.entry.read + 2)
+            × Reads ℕ word_read (lent_code self.entry.code) (self.entry.read + 2) result.segment (self.entry.read + 4) }
+    {
+        self.code.far(self.read)
     }
 }

@@ -4,155 +4,110 @@
 ghost use Rattle.std.specs.Prelude.{◌≤◌, ◌<◌};
 ghost use Rattle.sheet.specs.Groups.{Transfers};
 ghost use Rattle.sheet.specs.declared.Transfer.TheVariants.{LoadPointer};
-ghost use Rattle.code_answer.specs.Lent.{lent_code};
 ghost use Rattle.sheet.specs.FirstByte.{with_memory, with_counted, shift_group, bytes_c0};
 ghost use Rattle.code_answer.specs.Answer.{Decodes, Names};
+ghost use Rattle.code_bytes.specs.Lent.{lent_code};
 
-use code_answer::Decoded;
-use sheet::{Amount, Branch, Interrupt, Mode, Place, Places, Prefixes, Source, Stack, Transfer};
-
-// Numbers of segments.
-const DS1: u8 = 0;
-
-const DS0: u8 = 3;
+use code_answer::{DS0, DS1, Decoded, known};
+use code_bytes::Reader;
+use sheet::{Amount, Branch, Compute, Interrupt, Mode, Places, Refusal, Source, Stack, Transfer};
 
 // C0 and C1: the count follows.
-fn shift_given(ram: &[u8], rom: &[u8], ps: u16, pc: u16, p: Prefixes, b: u8, i: u16) -> Decoded
-    requires { i ≤ 4 }
-    ensures { Decodes (shift_group p with_counted b) (lent_code ram rom ps pc) i result }
+fn shift_given(r: Reader, b: u8) -> Result<Decoded, Refusal>
+    ensures { Decodes (shift_group r.entry.prefixes with_counted b) (lent_code r.entry.code) r.entry.read result }
 {
-    let o = code_operand::operands(ram, rom, ps, pc, p, i);
-    let place = o.place;
-    if o.reg == 6 {
-        return Decoded::Unknown { number: 3 };
-    }
-    let kind = code_operand::shift_at(o.reg);
-    let count = code_bytes::code_byte(ram, rom, ps, pc, o.next);
-    code_answer::shifts(
-        kind,
-        b % 2 == 1,
-        place,
-        Places::Counted(Amount::Given(count)),
+    let o = code_operand::operands(r);
+    let kind = o.shift()?;
+    let count = r.code.byte(o.next);
+    known(
+        Compute::Shifts {
+            kind,
+            word: b % 2 == 1,
+            to: o.place,
+            places: Places::Counted(Amount::Given(count)),
+        },
         o.next + 1,
     )
 }
 
-fn load_pointer(ram: &[u8], rom: &[u8], ps: u16, pc: u16, p: Prefixes, seg: u8, i: u16) -> Decoded
-    requires { i ≤ 4 }
-    ensures { Decodes (with_memory p (λ reg a. Transfers (LoadPointer seg reg a))) (lent_code ram rom ps pc) i result }
+fn load_pointer(r: Reader, seg: u8) -> Result<Decoded, Refusal>
+    ensures { Decodes (with_memory r.entry.prefixes (λ reg a. Transfers (LoadPointer seg reg a))) (lent_code r.entry.code) r.entry.read result }
 {
-    let o = code_operand::operands(ram, rom, ps, pc, p, i);
-    let place = o.place;
-    let from = match place {
-        Place::Memory(from) => from,
-        Place::Register(n) => return Decoded::Unknown { number: 3 },
-    };
-    code_answer::transfers(
+    let o = code_operand::operands(r);
+    let from = o.memory()?;
+    known(
         Transfer::LoadPointer {
-            seg: seg,
+            seg,
             reg: o.reg,
-            from: from,
+            from,
         },
         o.next,
     )
 }
 
-fn codesc2(ram: &[u8], rom: &[u8], ps: u16, pc: u16, p: Prefixes, b: u8, i: u16) -> Decoded
-    requires { (0xc2 ≤ b) × ((b < 0xc6) × (i ≤ 4)) }
-    ensures { Names (bytes_c0 p) b (lent_code ram rom ps pc) i result }
-{
-    if b == 0xc2 {
-        let size = code_bytes::code_word(ram, rom, ps, pc, i);
-        return code_answer::branches(Branch::RetPop { size: size }, i + 2);
-    }
-    if b == 0xc3 {
-        return code_answer::branches(Branch::Ret, i);
-    }
-    let seg = if b == 0xc4 { DS1 } else { DS0 };
-    load_pointer(ram, rom, ps, pc, p, seg, i)
-}
-
 // C6 and C7: an immediate to a place.
-fn move_immediate(ram: &[u8], rom: &[u8], ps: u16, pc: u16, p: Prefixes, b: u8, i: u16) -> Decoded
-    requires { (0xc6 ≤ b) × ((b < 0xc8) × (i ≤ 4)) }
-    ensures { Names (bytes_c0 p) b (lent_code ram rom ps pc) i result }
+fn move_immediate(r: Reader, b: u8) -> Result<Decoded, Refusal>
+    requires { (0xc6 ≤ b) × (b < 0xc8) }
+    ensures { Names (bytes_c0 r.entry.prefixes) b (lent_code r.entry.code) r.entry.read result }
 {
-    let o = code_operand::operands(ram, rom, ps, pc, p, i);
-    let place = o.place;
+    let o = code_operand::operands(r);
+    let to = o.plain()?;
     let word = b % 2 == 1;
-    let v = code_bytes::code_immediate(ram, rom, ps, pc, word, o.next);
-    if o.reg == 0 {
-        return code_answer::transfers(
-            Transfer::Mov {
-                word: word,
-                to: place,
-                from: Source::Immediate(v.value),
-            },
-            v.next,
-        );
-    }
-    Decoded::Unknown { number: 3 }
+    let v = r.code.immediate(word, o.next);
+    known(
+        Transfer::Mov {
+            word,
+            to,
+            from: Source::Immediate(v.value),
+        },
+        v.next,
+    )
 }
 
-fn codesc8(ram: &[u8], rom: &[u8], ps: u16, pc: u16, p: Prefixes, b: u8, i: u16) -> Decoded
-    requires { (0xc8 ≤ b) × ((b < 0xcc) × (i ≤ 4)) }
-    ensures { Names (bytes_c0 p) b (lent_code ram rom ps pc) i result }
+fn codesc2(r: Reader, b: u8) -> Result<Decoded, Refusal>
+    requires { (0xc2 ≤ b) × (b < 0xc6) }
+    ensures { Names (bytes_c0 r.entry.prefixes) b (lent_code r.entry.code) r.entry.read result }
 {
-    if b == 0xc8 {
-        let size = code_bytes::code_word(ram, rom, ps, pc, i);
-        let level = code_bytes::code_byte(ram, rom, ps, pc, i + 2);
-        return code_answer::stacks(
-            Stack::Prepare {
-                size: size,
-                level: level,
-            },
-            i + 2 + 1,
-        );
+    match b {
+        0xc2 => known(Branch::RetPop { size: r.word() }, r.read + 2),
+        0xc3 => known(Branch::Ret, r.read),
+        0xc4 => load_pointer(r, DS1),
+        _ => load_pointer(r, DS0),
     }
-    if b == 0xc9 {
-        return code_answer::stacks(Stack::Dispose, i);
-    }
-    if b == 0xca {
-        let size = code_bytes::code_word(ram, rom, ps, pc, i);
-        return code_answer::branches(Branch::RetFarPop { size: size }, i + 2);
-    }
-    code_answer::branches(Branch::RetFar, i)
 }
 
-fn codescc(ram: &[u8], rom: &[u8], ps: u16, pc: u16, p: Prefixes, b: u8, i: u16) -> Decoded
-    requires { (0xcc ≤ b) × ((b < 0xd0) × (i ≤ 4)) }
-    ensures { Names (bytes_c0 p) b (lent_code ram rom ps pc) i result }
+fn codesc8(r: Reader, b: u8) -> Result<Decoded, Refusal>
+    requires { (0xc8 ≤ b) × (b < 0xd0) }
+    ensures { Names (bytes_c0 r.entry.prefixes) b (lent_code r.entry.code) r.entry.read result }
 {
-    if b == 0xcd {
-        let vector = code_bytes::code_byte(ram, rom, ps, pc, i);
-        return code_answer::interrupts(Interrupt::Brk { vector: vector }, i + 1);
+    match b {
+        0xc8 => {
+            let size = r.word();
+            let level = r.code.byte(r.read + 2);
+            known(Stack::Prepare { size, level }, r.read + 2 + 1)
+        }
+        0xc9 => known(Stack::Dispose, r.read),
+        0xca => known(Branch::RetFarPop { size: r.word() }, r.read + 2),
+        0xcb => known(Branch::RetFar, r.read),
+        0xcc => known(Interrupt::Brk3, r.read),
+        0xcd => known(Interrupt::Brk { vector: r.byte() }, r.read + 1),
+        0xce => known(Interrupt::Brkv, r.read),
+        _ => known(Mode::Reti, r.read),
     }
-    if b == 0xcf {
-        return code_answer::modes(Mode::Reti, i);
-    }
-    let group = if b == 0xcc {
-        Interrupt::Brk3
-    } else {
-        Interrupt::Brkv
-    };
-    code_answer::interrupts(group, i)
 }
 
-pub fn codesc0(ram: &[u8], rom: &[u8], ps: u16, pc: u16, p: Prefixes, b: u8, i: u16) -> Decoded
-    requires { (0xc0 ≤ b) × ((b < 0xd0) × (i ≤ 4)) }
-    ensures { Names (bytes_c0 p) b (lent_code ram rom ps pc) i result }
+pub fn codesc0(r: Reader, b: u8) -> Result<Decoded, Refusal>
+    requires { (0xc0 ≤ b) × (b < 0xd0) }
+    ensures { Names (bytes_c0 r.entry.prefixes) b (lent_code r.entry.code) r.entry.read result }
 {
     if b < 0xc2 {
-        return shift_given(ram, rom, ps, pc, p, b, i);
+        return shift_given(r, b);
     }
     if b < 0xc6 {
-        return codesc2(ram, rom, ps, pc, p, b, i);
+        return codesc2(r, b);
     }
     if b < 0xc8 {
-        return move_immediate(ram, rom, ps, pc, p, b, i);
+        return move_immediate(r, b);
     }
-    if b < 0xcc {
-        return codesc8(ram, rom, ps, pc, p, b, i);
-    }
-    codescc(ram, rom, ps, pc, p, b, i)
+    codesc8(r, b)
 }

@@ -1,4 +1,5 @@
 -- The table of first bytes by its parts.
+use Rattle.sheet.specs.declared.Instr.{Instr}
 use Prim.Native.Nat.{ℕ, ◌+◌, ◌≤◌, ◌<◌}
 use mathlib.Core.Path.{◌≡◌, refl, ◌∙◌}
 use mathlib.Core.Bool.{Bool, true, ◌&&◌, and-eq-true_iff}
@@ -11,8 +12,7 @@ use Rattle.sheet.specs.Reading.{no}
 use Rattle.sheet.specs.Encoding.{Row, look_up}
 use Rattle.sheet.specs.FirstByte.{bytes00, bytes40, bytes80, bytes_c0, first_bytes}
 use Rattle.sheet.proofs.TableLaws.{below}
-use Rattle.code_answer.specs.declared.Decoded.{Decoded}
-use Rattle.code_answer.specs.Answer.{Names}
+use Rattle.code_answer.specs.Answer.{Answer, Names}
 use Rattle.code_answer.proofs.DecodesLaws.{decodes_as}
 use Rattle.code_answer.proofs.CodeLaws.{above_row}
 
@@ -44,7 +44,7 @@ unfolding look_up
 in_first [] t n b e h = nowhere t n b e h
 in_first (r ∷ s) t n b e h = rw (in_first s t n b e h)
 
-module _ (p : Prefixes) {b : ℕ} {src : ℕ → ℕ} {i : ℕ} {r : Decoded} where
+module _ (p : Prefixes) {b : ℕ} {src : ℕ → ℕ} {i : ℕ} {r : Answer Instr} where
   pub from_00 : b < 0x40 → Names (bytes00 p) b src i r → Names (first_bytes p) b src i r
   from_00 h x = record { is = decodes_as (in_first (bytes00 p) _ 0x40 b refl h) x.is }
 

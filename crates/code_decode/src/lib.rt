@@ -3,20 +3,24 @@
 
 mod first;
 
-ghost use Rattle.code_answer.specs.Lent.{lent_code};
+ghost use Rattle.sheet.specs.Step.{code_byte};
 ghost use Rattle.sheet.specs.FirstByte.{instruction};
 ghost use Rattle.code_answer.specs.Answer.{Decodes};
 
 use code_answer::Decoded;
+use code_bytes::{Code, Reader};
+use sheet::Refusal;
 
 // The instruction at PS:PC.
-pub fn decode(ram: &[u8], rom: &[u8], ps: u16, pc: u16) -> Decoded
-    ensures { Decodes instruction (lent_code ram rom ps pc) 0 result }
+pub fn decode(ram: &[u8], rom: &[u8], ps: u16, pc: u16) -> Result<Decoded, Refusal>
+    ensures { Decodes instruction (code_byte ram.now rom.now ps pc) 0 result }
 {
-    let s = code_prefix::start(ram, rom, ps, pc);
-    if s.fourth {
-        return Decoded::Unknown { number: 4 };
-    }
-    let prefixes = s.prefixes;
-    first::first(ram, rom, ps, pc, prefixes, s.byte, s.next)
+    let code = Code { ram, rom, ps, pc };
+    let o = code_prefix::start(code)?;
+    let r = Reader {
+        code,
+        prefixes: o.prefixes,
+        read: o.next,
+    };
+    first::first(r, o.byte)
 }

@@ -2,101 +2,84 @@
 #![tactic(auto)]
 
 ghost use Rattle.std.specs.Prelude.{◌≤◌, ◌<◌};
-ghost use Rattle.code_answer.specs.Lent.{lent_code};
 ghost use Rattle.sheet.specs.FirstByte.{bytes_c0};
 ghost use Rattle.code_answer.specs.Answer.{Names};
+ghost use Rattle.code_bytes.specs.Lent.{lent_code};
 
-use code_answer::Decoded;
-use sheet::{Branch, Conditional, Io, Port, Prefixes};
+use code_answer::{Decoded, known};
+use code_bytes::Reader;
+use sheet::{Branch, Conditional, Io, Port, Refusal};
 
 // E0 to E3: branches by CW.
-fn loops(ram: &[u8], rom: &[u8], ps: u16, pc: u16, p: Prefixes, b: u8, i: u16) -> Decoded
-    requires { (0xe0 ≤ b) × ((b < 0xe4) × (i ≤ 4)) }
-    ensures { Names (bytes_c0 p) b (lent_code ram rom ps pc) i result }
+fn loops(r: Reader, b: u8) -> Result<Decoded, Refusal>
+    requires { (0xe0 ≤ b) × (b < 0xe4) }
+    ensures { Names (bytes_c0 r.entry.prefixes) b (lent_code r.entry.code) r.entry.read result }
 {
-    let disp = code_bytes::code_short(ram, rom, ps, pc, i);
+    let disp = r.short();
     let group = match b {
-        0xe0 => Conditional::Dbnzne { disp: disp },
-        0xe1 => Conditional::Dbnze { disp: disp },
-        0xe2 => Conditional::Dbnz { disp: disp },
-        _ => Conditional::Bcwz { disp: disp },
+        0xe0 => Conditional::Dbnzne { disp },
+        0xe1 => Conditional::Dbnze { disp },
+        0xe2 => Conditional::Dbnz { disp },
+        _ => Conditional::Bcwz { disp },
     };
-    code_answer::tests(group, i + 1)
+    known(group, r.read + 1)
 }
 
 // E4 to E7: a port whose number follows.
-fn numbered_ports(ram: &[u8], rom: &[u8], ps: u16, pc: u16, p: Prefixes, b: u8, i: u16) -> Decoded
-    requires { (0xe4 ≤ b) × ((b < 0xe8) × (i ≤ 4)) }
-    ensures { Names (bytes_c0 p) b (lent_code ram rom ps pc) i result }
+fn numbered_ports(r: Reader, b: u8) -> Result<Decoded, Refusal>
+    requires { (0xe4 ≤ b) × (b < 0xe8) }
+    ensures { Names (bytes_c0 r.entry.prefixes) b (lent_code r.entry.code) r.entry.read result }
 {
-    let number = code_bytes::code_byte(ram, rom, ps, pc, i);
     let word = b % 2 == 1;
-    let port = Port::Numbered(number);
+    let port = Port::Numbered(r.byte());
     let group = if b < 0xe6 {
-        Io::In {
-            word: word,
-            port: port,
-        }
+        Io::In { word, port }
     } else {
-        Io::Out {
-            word: word,
-            port: port,
-        }
+        Io::Out { word, port }
     };
-    code_answer::ports(group, i + 1)
+    known(group, r.read + 1)
 }
 
-fn codese8(ram: &[u8], rom: &[u8], ps: u16, pc: u16, p: Prefixes, b: u8, i: u16) -> Decoded
-    requires { (0xe8 ≤ b) × ((b < 0xec) × (i ≤ 4)) }
-    ensures { Names (bytes_c0 p) b (lent_code ram rom ps pc) i result }
+fn codese8(r: Reader, b: u8) -> Result<Decoded, Refusal>
+    requires { (0xe8 ≤ b) × (b < 0xec) }
+    ensures { Names (bytes_c0 r.entry.prefixes) b (lent_code r.entry.code) r.entry.read result }
 {
-    if b == 0xea {
-        let to = code_bytes::code_far(ram, rom, ps, pc, i);
-        return code_answer::branches(
-            Branch::BrFar {
-                ps: to.segment,
-                pc: to.offset,
-            },
-            i + 4,
-        );
+    match b {
+        0xe8 => known(Branch::CallNear { disp: r.word() }, r.read + 2),
+        0xe9 => known(Branch::BrNear { disp: r.word() }, r.read + 2),
+        0xea => {
+            let to = r.far();
+            known(
+                Branch::BrFar {
+                    ps: to.segment,
+                    pc: to.offset,
+                },
+                r.read + 4,
+            )
+        }
+        _ => known(Branch::BrShort { disp: r.short() }, r.read + 1),
     }
-    if b == 0xeb {
-        let disp = code_bytes::code_short(ram, rom, ps, pc, i);
-        return code_answer::branches(Branch::BrShort { disp: disp }, i + 1);
-    }
-    let disp = code_bytes::code_word(ram, rom, ps, pc, i);
-    let group = if b == 0xe8 {
-        Branch::CallNear { disp: disp }
-    } else {
-        Branch::BrNear { disp: disp }
-    };
-    code_answer::branches(group, i + 2)
 }
 
-pub fn codese0(ram: &[u8], rom: &[u8], ps: u16, pc: u16, p: Prefixes, b: u8, i: u16) -> Decoded
-    requires { (0xe0 ≤ b) × ((b < 0xf0) × (i ≤ 4)) }
-    ensures { Names (bytes_c0 p) b (lent_code ram rom ps pc) i result }
+pub fn codese0(r: Reader, b: u8) -> Result<Decoded, Refusal>
+    requires { (0xe0 ≤ b) × (b < 0xf0) }
+    ensures { Names (bytes_c0 r.entry.prefixes) b (lent_code r.entry.code) r.entry.read result }
 {
     if b < 0xe4 {
-        return loops(ram, rom, ps, pc, p, b, i);
+        return loops(r, b);
     }
     if b < 0xe8 {
-        return numbered_ports(ram, rom, ps, pc, p, b, i);
+        return numbered_ports(r, b);
     }
     if b < 0xec {
-        return codese8(ram, rom, ps, pc, p, b, i);
+        return codese8(r, b);
     }
     let word = b % 2 == 1;
+    let port = Port::InDw;
     let group = if b < 0xee {
-        Io::In {
-            word: word,
-            port: Port::InDw,
-        }
+        Io::In { word, port }
     } else {
-        Io::Out {
-            word: word,
-            port: Port::InDw,
-        }
+        Io::Out { word, port }
     };
-    code_answer::ports(group, i)
+    known(group, r.read)
 }

@@ -1,142 +1,96 @@
 // The first bytes F0 to FF; those of them that are prefixes name no instruction.
 #![tactic(auto)]
 
-ghost use Rattle.std.specs.Prelude.{◌≡◌, ◌≤◌};
-ghost use Rattle.sheet.specs.Groups.{Branches};
-ghost use Rattle.sheet.specs.declared.Branch.TheVariants.{CallFarAt, BrFarAt};
+ghost use Rattle.std.specs.Prelude.{◌≤◌};
 ghost use Rattle.sheet.specs.Width.{pick};
-ghost use Rattle.code_answer.specs.Lent.{lent_code};
 ghost use Rattle.sheet.specs.FirstByte.{group_f6, group_fe, group_ff, bytes_c0};
 ghost use Rattle.code_answer.specs.Answer.{Decodes, Names};
-ghost use Rattle.code_f0.specs.Memory.{memory_only};
+ghost use Rattle.code_bytes.specs.Lent.{lent_code};
 
-use code_answer::Decoded;
-use sheet::{Arithmetic, Branch, Control, Multiply, Place, Prefixes, Source, Stack, Unary};
+use code_answer::{Decoded, known};
+use code_bytes::Reader;
+use sheet::{Arithmetic, Branch, Control, Multiply, Refusal, Source, Stack, Unary};
 
-fn group_f6(ram: &[u8], rom: &[u8], ps: u16, pc: u16, p: Prefixes, b: u8, i: u16) -> Decoded
-    requires { i ≤ 4 }
-    ensures { Decodes (group_f6 p b) (lent_code ram rom ps pc) i result }
+fn group_f6(r: Reader, b: u8) -> Result<Decoded, Refusal>
+    ensures { Decodes (group_f6 r.entry.prefixes b) (lent_code r.entry.code) r.entry.read result }
 {
-    let o = code_operand::operands(ram, rom, ps, pc, p, i);
-    let place = o.place;
+    let o = code_operand::operands(r);
     let word = b % 2 == 1;
-    let reg = o.reg;
-    if reg == 0 {
-        let v = code_bytes::code_immediate(ram, rom, ps, pc, word, o.next);
-        return code_answer::calculates(
+    let by = o.place;
+    if o.reg == 0 {
+        let v = r.code.immediate(word, o.next);
+        return known(
             Arithmetic::Test {
-                word: word,
-                left: place,
+                word,
+                left: o.place,
                 right: Source::Immediate(v.value),
             },
             v.next,
         );
     }
-    if reg == 1 {
-        return Decoded::Unknown { number: 3 };
+    if o.reg == 1 {
+        return Err(Refusal::UnknownInstruction);
     }
-    if reg < 4 {
-        let op = if reg == 2 { Unary::Not } else { Unary::Neg };
-        return code_answer::calculates(
+    if o.reg < 4 {
+        let op = if o.reg == 2 { Unary::Not } else { Unary::Neg };
+        return known(
             Arithmetic::One {
-                op: op,
-                word: word,
-                to: place,
+                op,
+                word,
+                to: o.place,
             },
             o.next,
         );
     }
-    let group = match reg {
-        4 => Multiply::Mulu {
-            word: word,
-            by: place,
-        },
-        5 => Multiply::Mul {
-            word: word,
-            by: place,
-        },
-        6 => Multiply::Divu {
-            word: word,
-            by: place,
-        },
-        _ => Multiply::Div {
-            word: word,
-            by: place,
-        },
+    let group = match o.reg {
+        4 => Multiply::Mulu { word, by },
+        5 => Multiply::Mul { word, by },
+        6 => Multiply::Divu { word, by },
+        _ => Multiply::Div { word, by },
     };
-    code_answer::multiplies(group, o.next)
-}
-
-// A pointer must stand in memory.
-fn far_at(call: bool, place: Place, size: u16) -> Decoded
-    ensures { result ≡ memory_only (λ a. Branches (pick call (CallFarAt a) (BrFarAt a))) place size }
-{
-    let at = match place {
-        Place::Memory(at) => at,
-        Place::Register(n) => return Decoded::Unknown { number: 3 },
-    };
-    let group = if call {
-        Branch::CallFarAt { at: at }
-    } else {
-        Branch::BrFarAt { at: at }
-    };
-    code_answer::branches(group, size)
+    known(group, o.next)
 }
 
 // FE has the first two rows of FF, for bytes.
-fn group_fe(ram: &[u8], rom: &[u8], ps: u16, pc: u16, p: Prefixes, word: bool, i: u16) -> Decoded
-    requires { i ≤ 4 }
-    ensures { Decodes (pick word (group_ff p) (group_fe p)) (lent_code ram rom ps pc) i result }
+fn group_fe(r: Reader, word: bool) -> Result<Decoded, Refusal>
+    ensures { Decodes (pick word (group_ff r.entry.prefixes) (group_fe r.entry.prefixes)) (lent_code r.entry.code) r.entry.read result }
 {
-    let o = code_operand::operands(ram, rom, ps, pc, p, i);
-    let place = o.place;
-    let reg = o.reg;
-    if reg < 2 {
-        let op = if reg == 0 { Unary::Inc } else { Unary::Dec };
-        return code_answer::calculates(
-            Arithmetic::One {
-                op: op,
-                word: word,
-                to: place,
-            },
-            o.next,
-        );
+    let o = code_operand::operands(r);
+    let to = o.place;
+    if o.reg < 2 {
+        let op = if o.reg == 0 { Unary::Inc } else { Unary::Dec };
+        return known(Arithmetic::One { op, word, to }, o.next);
     }
     if !word {
-        return Decoded::Unknown { number: 3 };
+        return Err(Refusal::UnknownInstruction);
     }
-    let group = match reg {
-        2 => Branch::CallTo { to: place },
-        3 | 5 => return far_at(reg == 3, place, o.next),
-        4 => Branch::BrTo { to: place },
-        6 => return code_answer::stacks(Stack::Push { from: place }, o.next),
-        _ => return Decoded::Unknown { number: 3 },
+    let group = match o.reg {
+        2 => Branch::CallTo { to },
+        3 => Branch::CallFarAt { at: o.memory()? },
+        4 => Branch::BrTo { to },
+        5 => Branch::BrFarAt { at: o.memory()? },
+        6 => return known(Stack::Push { from: to }, o.next),
+        _ => return Err(Refusal::UnknownInstruction),
     };
-    code_answer::branches(group, o.next)
+    known(group, o.next)
 }
 
-pub fn codesf0(ram: &[u8], rom: &[u8], ps: u16, pc: u16, p: Prefixes, b: u8, i: u16) -> Decoded
-    requires { (0xf0 ≤ b) × (i ≤ 4) }
-    ensures { Names (bytes_c0 p) b (lent_code ram rom ps pc) i result }
+pub fn codesf0(r: Reader, b: u8) -> Result<Decoded, Refusal>
+    requires { 0xf0 ≤ b }
+    ensures { Names (bytes_c0 r.entry.prefixes) b (lent_code r.entry.code) r.entry.read result }
 {
-    if b < 0xf4 {
-        return Decoded::Unknown { number: 3 };
-    }
-    if b / 2 == 0x7b {
-        return group_f6(ram, rom, ps, pc, p, b, i);
-    }
-    if 0xfe <= b {
-        return group_fe(ram, rom, ps, pc, p, b == 0xff, i);
-    }
     let group = match b {
         0xf4 => Control::Halt,
         0xf5 => Control::NotCy,
+        0xf6 | 0xf7 => return group_f6(r, b),
         0xf8 => Control::ClrCy,
         0xf9 => Control::SetCy,
         0xfa => Control::Di,
         0xfb => Control::Ei,
         0xfc => Control::ClrDir,
-        _ => Control::SetDir,
+        0xfd => Control::SetDir,
+        0xfe | 0xff => return group_fe(r, b == 0xff),
+        _ => return Err(Refusal::UnknownInstruction),
     };
-    code_answer::controls(group, i)
+    known(group, r.read)
 }

@@ -1,47 +1,28 @@
 -- An answer of the 8080 mode's decoder as one of the decoder's.
 use Prim.Native.Nat.{ℕ}
-use mathlib.Core.Path.{◌≡◌, refl, ◌∙◌}
+use mathlib.Core.Path.{◌≡◌, refl}
 use mathlib.Core.Bool.{Bool, true, false}
 use Rattle.sheet.specs.declared.cards.Card.{Card}
+use Rattle.std.specs.Prelude.{Err}
+use Rattle.sheet.specs.declared.Refusal.{Refusal}
+use Rattle.sheet.specs.declared.Instr.{Instr}
 use Rattle.sheet.specs.declared.Instr.TheVariants.{Cards}
 use Rattle.sheet.specs.Width.{pick}
-use Rattle.sheet.specs.Reading.{Read, known, unknown, scan}
 use Rattle.sheet.specs.FirstByte.{instruction}
 use Rattle.sheet.specs.CardCodes.{card, card_instruction}
-use Rattle.sheet.specs.Contract.{Reads, Refuses}
-use Rattle.code_answer.specs.declared.Decoded.{Decoded}
-use Rattle.code_answer.specs.declared.Decoded.TheVariants as decoded
-use Rattle.code_answer.specs.Answer.{Decodes}
-use Rattle.code_answer.proofs.DecodesLaws.{decodes_seq, decodes_refused}
-use Rattle.code_answer.proofs.FollowLaws.{decodes_known}
-use Rattle.code_8080_answer.specs.declared.CardDecoded.{CardDecoded}
-use Rattle.code_8080_answer.specs.declared.CardDecoded.TheVariants.{Known, Unknown}
-use Rattle.code_8080_answer.specs.CardAnswer.{card_answer_of, CardDecodes}
+use Rattle.code_answer.specs.Answer.{Answer, known_as, Decodes}
+use Rattle.code_answer.proofs.DecodesLaws.{Exits, left_by, decodes_known, decodes_refused_by, decodes_seq, known_reads, unknown_refuses}
 
-module _ {src : ℕ → ℕ} {x : CardDecoded} (h : CardDecodes card src 0 x) where
-  card_reads : (c : Card) (n : ℕ) → x ≡ Known c n → Reads Card card src 0 c n
-  card_reads c n q = record { is = go (scan card src 0) (h.is ∙ q) }
-    where
-      go : (s : Read Card) → card_answer_of s ≡ Known c n → s ≡ known c n
-      go (known b m) e = cc
-      go (unknown b m) e = cc
-
-  card_refuses : (k : ℕ) → x ≡ Unknown k → Refuses Card card src 0 k
-  card_refuses k q = go (scan card src 0) refl (h.is ∙ q)
-    where
-      go : (s : Read Card) → scan card src 0 ≡ s → card_answer_of s ≡ Unknown k → Refuses Card card src 0 k
-      go (known b m) e f = let z : ◌≡◌ {A = Read Card} (known b m) (unknown k m) = cc in record { at = m; is = e ∙ z }
-      go (unknown b m) e f = let z : ◌≡◌ {A = Read Card} (unknown b m) (unknown k m) = cc in record { at = m; is = e ∙ z }
-
-  pub card_known : {c : Card} {n : ℕ} → x ≡ Known c n → Decodes card_instruction src 0 (decoded.Known (Cards c) n)
+module _ {src : ℕ → ℕ} where
+  pub card_known : {c : Card} {n : ℕ} {r : Answer Instr} → Decodes card src 0 (known_as c n) → r ≡ known_as (Cards c) n → Decodes card_instruction src 0 r
   unfolding card_instruction
-  card_known {c = c} {n = n} e = decodes_seq _ (card_reads c n e) (decodes_known refl)
+  card_known x e = decodes_seq _ (known_reads _ _ x) (decodes_known e)
 
-  pub card_unknown : {k : ℕ} → x ≡ Unknown k → Decodes card_instruction src 0 (decoded.Unknown k)
+  pub card_unknown : (e : Refusal) {r : Answer Instr} → Decodes card src 0 (Err e) → Exits r e → Decodes card_instruction src 0 r
   unfolding card_instruction
-  card_unknown {k = k} e = decodes_refused _ (card_refuses k e)
+  card_unknown e x y = left_by y refl (decodes_refused_by _ e (unknown_refuses e x))
 
-module _ {src : ℕ → ℕ} {r : Decoded} {native : Bool} where
+module _ {src : ℕ → ℕ} {r : Answer Instr} {native : Bool} where
   pub in_native : native ≡ true → Decodes instruction src 0 r → Decodes (pick native instruction card_instruction) src 0 r
   in_native e h = rw e h
 

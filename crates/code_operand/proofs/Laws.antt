@@ -1,23 +1,23 @@
 -- What each return of the code comes to, over plain values.
-use Prim.Native.Nat.{ℕ, zero, suc, ◌+◌, ◌*◌, ◌/◌, ◌%◌, ◌<◌}
+use Prim.Native.Nat.{ℕ, ◌+◌, ◌/◌, ◌%◌, ◌<◌}
 use mathlib.Core.Path.{◌≡◌, refl}
 use mathlib.Core.Bool.{Bool, true, false, ◌&&◌}
-use mathlib.Core.List.{[], ◌∷◌}
-use mathlib.Core.Option.{none, some}
+use Rattle.std.specs.Prelude.{Option, None, Some, unwrap_or, ok_or}
+use Rattle.sheet.specs.declared.Refusal.TheVariants.{UnknownInstruction}
+use Rattle.sheet.specs.declared.Instr.{Instr}
+use Rattle.sheet.specs.Registers.{in_ds0}
 use native.Mathlib.Omega.{arith}
 use borrow.Author.Tests.{eq-eqb, ne_eqb, eqb-true}
 use lib.Dec.{eqb}
 use lib.ListN.{get_or}
 use Rattle.sheet.specs.declared.Form.{Form}
 use Rattle.sheet.specs.declared.Address.{Address}
-use Rattle.sheet.specs.declared.Address.TheVariants.{Formed}
+use Rattle.sheet.specs.declared.Address.TheVariants.{Formed, Direct}
 use Rattle.sheet.specs.declared.Place.{Place}
 use Rattle.sheet.specs.declared.Place.TheVariants.{Register, Memory}
 use Rattle.sheet.specs.declared.Prefixes.{Prefixes}
 use Rattle.sheet.specs.declared.Primitive.{Primitive}
-use Rattle.sheet.specs.declared.Repeat.{Repeat}
 use Rattle.sheet.specs.declared.Shift.{Shift}
-use Rattle.sheet.specs.declared.Shift.TheVariants.{Rol, Ror, Rolc, Rorc, Shl, Shr, Shra}
 use Rattle.sheet.specs.declared.Instr.TheVariants.{Blocks}
 use Rattle.sheet.specs.Operand.{form_at}
 use Rattle.sheet.specs.Reading.{byte, word, signed_byte}
@@ -25,30 +25,28 @@ use Rattle.sheet.specs.Encoding.{seg_or, mod_field, mem_field, formed, direct, d
 use Rattle.sheet.specs.FirstByte.{shifts}
 use Rattle.sheet.specs.Contract.{Reads}
 use Rattle.sheet.proofs.ReadingLaws.{reads_seq, reads_got, read_true, read_false}
-use Rattle.code_answer.specs.declared.Decoded.{Decoded}
-use Rattle.code_answer.specs.declared.Decoded.TheVariants.{Known}
-use Rattle.code_answer.specs.Answer.{Takes}
+use Rattle.code_answer.specs.Answer.{Answer, known_as, Takes}
 use Rattle.code_answer.proofs.CodeLaws.{not_both}
-use Rattle.code_operand.specs.Operands.{Operands}
+use Rattle.code_operand.specs.Operands.{Operands, shift_of}
 
--- the code's table of shifts has something at the number that the definition leaves out
-pub shift_in : (n : ℕ) (d : Shift) → n < 8 → (n ≡ 6 → ⊥) → get_or shifts n none ≡ some (get_or (Rol ∷ Ror ∷ Rolc ∷ Rorc ∷ Shl ∷ Shr ∷ Shl ∷ Shra ∷ []) n d)
-shift_in zero d h f = refl
-shift_in (suc zero) d h f = refl
-shift_in (suc (suc zero)) d h f = refl
-shift_in (suc (suc (suc zero))) d h f = refl
-shift_in (suc (suc (suc (suc zero)))) d h f = refl
-shift_in (suc (suc (suc (suc (suc zero))))) d h f = refl
-shift_in (suc (suc (suc (suc (suc (suc zero)))))) d h f = absurd (f refl)
-shift_in (suc (suc (suc (suc (suc (suc (suc zero))))))) d h f = refl
-shift_in (suc (suc (suc (suc (suc (suc (suc (suc n)))))))) d h f = absurd (omega arith)
+-- what the library answers for a segment that a prefix may put in its place
+pub seg_given : (s : Option ℕ) (usual : ℕ) → unwrap_or s usual ≡ seg_or s usual
+seg_given None usual = refl
+seg_given (Some n) usual = refl
 
-pub formed_is : (p : Prefixes) (n disp s : ℕ) (f : Form) → f ≡ form_at n → s ≡ seg_or p.seg f.seg → Formed s n disp ≡ formed p n disp
+pub formed_is : (p : Prefixes) (n disp s : ℕ) (f : Form) → f ≡ form_at n → s ≡ unwrap_or p.seg f.seg → Formed s n disp ≡ formed p n disp
 unfolding formed
-formed_is p n disp s f e h = rw (h, e)
+formed_is p n disp s f e h = rw (h, e, seg_given)
 
-pub block_is : (k : Primitive) (w : Bool) (s u : ℕ) (t : Repeat) (i : ℕ) (r : Decoded) → r ≡ Known (Blocks k w s t) i → s ≡ u → r ≡ Known (Blocks k w u t) i
-block_is k w s u t i r e h = rw h at e
+pub direct_is : (p : Prefixes) (offset s : ℕ) → s ≡ unwrap_or p.seg in_ds0 → Direct s offset ≡ direct p offset
+direct_is p offset s h = rw (h, seg_given)
+
+pub block_is : (k : Primitive) (w : Bool) (p : Prefixes) (s i : ℕ) (r : Answer Instr) → r ≡ known_as (Blocks k w s p.repeat) i → s ≡ unwrap_or p.seg in_ds0 → r ≡ known_as (Blocks k w (seg_or p.seg in_ds0) p.repeat) i
+block_is k w p s i r e h = rw (h, seg_given) at e
+
+-- the library's answers and the definitions
+pub shift_known : (reg : ℕ) (s : Option Shift) → s ≡ get_or shifts reg None → ok_or s UnknownInstruction ≡ shift_of reg
+shift_known reg s e = rw e
 
 module _ {src : ℕ → ℕ} {i : ℕ} where
   pub displacement_none : (mode : ℕ) → mode ≡ 0 → Takes ℕ (displacement mode) src i 0 i 2
@@ -64,19 +62,17 @@ module _ {src : ℕ → ℕ} {i : ℕ} where
   displacement_word mode v f e x = record { reads = read_false _ _ (ne_eqb mode 0 f) (read_false _ _ (ne_eqb mode 1 e) x); most = omega arith }
 
   module _ (p : Prefixes) (m : ℕ) where
-    pub address_direct : (v : ℕ) (a : Address) → m / 64 * 8 + m % 8 ≡ 6 → Reads ℕ word src i v (i + 2) → a ≡ direct p v → Takes Address (address p (mod_field m) (mem_field m)) src i a (i + 2) 2
+    pub address_direct : (v : ℕ) (a : Address) → m / 64 ≡ 0 → m % 8 ≡ 6 → Reads ℕ word src i v (i + 2) → a ≡ direct p v → Takes Address (address p (mod_field m) (mem_field m)) src i a (i + 2) 2
     unfolding address with_offset
-    address_direct v a e x h =
-        let k : mod_field m ≡ 0 = omega arith in
-        let l : mem_field m ≡ 6 = omega arith in
+    address_direct v a k l x h =
         let t : (eqb (mod_field m) 0 && eqb (mem_field m) 6) ≡ true = rw (eq-eqb (mod_field m) 0 k, eq-eqb (mem_field m) 6 l) in
         record { reads = read_true _ _ t (rw h (reads_seq _ x reads_got)); most = omega arith }
 
-    pub address_formed : (v j : ℕ) (a : Address) → (m / 64 * 8 + m % 8 ≡ 6 → ⊥) → Takes ℕ (displacement (m / 64)) src i v j 2 → a ≡ formed p (m % 8) v
+    pub address_formed : (v j : ℕ) (a : Address) → (m / 64 ≡ 0 → m % 8 ≡ 6 → ⊥) → Takes ℕ (displacement (m / 64)) src i v j 2 → a ≡ formed p (m % 8) v
         → Takes Address (address p (mod_field m) (mem_field m)) src i a j 2
     unfolding address with_displacement
     address_formed v j a e x h =
-        let t : (eqb (mod_field m) 0 && eqb (mem_field m) 6) ≡ false = not_both (eqb (mod_field m) 0) (eqb (mem_field m) 6) (λ k l. e (omega (arith, eqb-true (mod_field m) 0 k, eqb-true (mem_field m) 6 l))) in
+        let t : (eqb (mod_field m) 0 && eqb (mem_field m) 6) ≡ false = not_both (eqb (mod_field m) 0) (eqb (mem_field m) 6) (λ k l. e (eqb-true (mod_field m) 0 k) (eqb-true (mem_field m) 6 l)) in
         record { reads = read_false _ _ t (rw h (reads_seq _ x.reads reads_got)); most = x.most }
 
     place_register : m / 64 ≡ 3 → Takes Place (place p m) src i (Register (m % 8)) i 2

@@ -1,24 +1,19 @@
 // The mod-reg-mem byte: the register or the address that it names, with the bytes that follow it.
 #![tactic(auto)]
 
-ghost use Rattle.std.specs.Prelude.{◌≡◌, ℕ, ◌≤◌, ◌<◌, get_or};
-ghost use Rattle.std.proofs.Math.Option.{none, some};
+ghost use Rattle.std.specs.Prelude.{◌≡◌, ℕ, ◌+◌, ◌<◌};
 ghost use Rattle.sheet.specs.declared.Instr.TheVariants.{Blocks};
-ghost use Rattle.code_answer.specs.declared.Decoded.TheVariants.{Known};
 ghost use Rattle.sheet.specs.Registers.{in_ds0};
-ghost use Rattle.sheet.specs.FirstByte.{operation_at, shifts};
-ghost use Rattle.code_answer.specs.Lent.{lent_code};
+ghost use Rattle.sheet.specs.FirstByte.{operation_at};
 ghost use Rattle.sheet.specs.Encoding.{W, seg_or, mod_field, mem_field};
 ghost use Rattle.sheet.specs.Encoding.{formed as formed_of, direct as direct_of, displacement as displacement_read, address as address_read};
-ghost use Rattle.code_answer.specs.Answer.{Takes};
-ghost use Rattle.code_operand.specs.Operands.{Operands};
+ghost use Rattle.code_answer.specs.Answer.{known_as, Takes};
+ghost use Rattle.code_bytes.specs.Lent.{lent_code};
+ghost use Rattle.code_operand.specs.Operands.{Operands, memory_of, plain_of, shift_of};
 
-use code_answer::Decoded;
-use code_bytes::NumberRead;
-use sheet::{Address, Operation, Override, Place, Prefixes, Primitive, Shift};
-
-// The number of DS0, the segment of most operands.
-const DS0: u8 = 3;
+use code_answer::{DS0, Decoded};
+use code_bytes::{NumberRead, Reader};
+use sheet::{Address, Operation, Place, Prefixes, Primitive, Refusal, Shift};
 
 #[derive(Clone, Copy)]
 struct AddressRead {
@@ -32,50 +27,7 @@ pub struct OperandsRead {
     pub reg: u8,
     pub place: Place,
     pub next: u16,
-}
-
-// The segment that counts, where it would be `usual`.
-pub fn seg_or(seg: Override, usual: u8) -> u8
-    ensures { result ≡ seg_or seg usual }
-{
-    match seg {
-        Override::Usual => usual,
-        Override::Named(n) => n,
-    }
-}
-
-// An address form with its displacement.
-fn formed(p: Prefixes, n: u8, disp: u16) -> Address
-    ensures { result ≡ formed_of p n disp }
-{
-    let form = mach_forms::form_at(n);
-    let seg = p.seg;
-    Address::Formed {
-        seg: seg_or(seg, form.seg),
-        form: n,
-        disp: disp,
-    }
-}
-
-// An address by itself.
-pub fn direct(p: Prefixes, offset: u16) -> Address
-    ensures { result ≡ direct_of p offset }
-{
-    let seg = p.seg;
-    Address::Direct {
-        seg: seg_or(seg, DS0),
-        offset: offset,
-    }
-}
-
-// A block instruction, whose source obeys the prefixes.
-pub fn block(p: Prefixes, primitive: Primitive, b: u8, i: u16) -> Decoded
-    ensures { result ≡ Known (Blocks primitive (W b) (seg_or p.seg in_ds0) p.repeat) i }
-{
-    let seg = p.seg;
-    let repeat = p.repeat;
-    let source = seg_or(seg, DS0);
-    code_answer::blocks(primitive, b % 2 == 1, source, repeat, i)
+    pub ghost field: { reg < 8 },
 }
 
 // The operations and the shifts, as a reg field names them; no shift has the number 6.
@@ -90,91 +42,149 @@ const OPERATIONS: [Operation; 8] = [
     Operation::Cmp,
 ];
 
-const SHIFTS: [Shift; 8] = [
-    Shift::Rol,
-    Shift::Ror,
-    Shift::Rolc,
-    Shift::Rorc,
-    Shift::Shl,
-    Shift::Shr,
-    Shift::Shl,
-    Shift::Shra,
+const SHIFTS: [Option<Shift>; 8] = [
+    Some(Shift::Rol),
+    Some(Shift::Ror),
+    Some(Shift::Rolc),
+    Some(Shift::Rorc),
+    Some(Shift::Shl),
+    Some(Shift::Shr),
+    None,
+    Some(Shift::Shra),
 ];
+
+impl OperandsRead {
+    // The operand where it has to stand in memory.
+    pub fn memory(self) -> Result<Address, Refusal>
+        ensures { result ≡ memory_of self.place }
+    {
+        match self.place {
+            Place::Memory(address) => Ok(address),
+            Place::Register(_) => Err(Refusal::UnknownInstruction),
+        }
+    }
+
+    // The operand where the reg field has to be 0.
+    pub fn plain(self) -> Result<Place, Refusal>
+        ensures { result ≡ plain_of self.reg self.place }
+    {
+        if self.reg == 0 {
+            Ok(self.place)
+        } else {
+            Err(Refusal::UnknownInstruction)
+        }
+    }
+
+    // The shift that the reg field names.
+    pub fn shift(self) -> Result<Shift, Refusal>
+        ensures { result ≡ shift_of self.reg }
+    {
+        SHIFTS[self.reg as usize].ok_or(Refusal::UnknownInstruction)
+    }
+
+    // The operation that it names.
+    pub fn operation(self) -> Operation
+        ensures { result ≡ operation_at self.reg }
+    {
+        operation_at(self.reg)
+    }
+}
 
 pub fn operation_at(n: u8) -> Operation
     requires { n < 8 }
     ensures { result ≡ operation_at n }
 {
-    let i = n as usize;
-    OPERATIONS[i]
+    OPERATIONS[n as usize]
 }
 
-pub fn shift_at(n: u8) -> Shift
-    requires { (n < 8) × (n ≡ 6 → ⊥) }
-    ensures { get_or shifts n none ≡ some result }
+// An address form with its displacement.
+fn formed(p: Prefixes, n: u8, disp: u16) -> Address
+    ensures { result ≡ formed_of p n disp }
 {
-    let i = n as usize;
-    SHIFTS[i]
+    Address::Formed {
+        seg: p.seg.unwrap_or(mach_forms::form_at(n).seg),
+        form: n,
+        disp,
+    }
 }
 
-// A displacement: none, a byte with its sign, a word.
-fn displacement(ram: &[u8], rom: &[u8], ps: u16, pc: u16, mode: u8, i: u16) -> NumberRead
-    requires { i ≤ 6 }
-    ensures { Takes ℕ (displacement_read mode) (lent_code ram rom ps pc) i result.value result.next 2 }
+// An address by itself.
+pub fn direct(p: Prefixes, offset: u16) -> Address
+    ensures { result ≡ direct_of p offset }
 {
-    if mode == 0 {
-        return NumberRead { value: 0, next: i };
+    Address::Direct {
+        seg: p.seg.unwrap_or(DS0),
+        offset,
     }
-    if mode == 1 {
-        return NumberRead {
-            value: code_bytes::code_short(ram, rom, ps, pc, i),
-            next: i + 1,
-        };
-    }
-    NumberRead {
-        value: code_bytes::code_word(ram, rom, ps, pc, i),
-        next: i + 2,
+}
+
+// A block instruction, whose source obeys the prefixes.
+pub fn block(r: Reader, primitive: Primitive, b: u8) -> Result<Decoded, Refusal>
+    ensures { result ≡ known_as (Blocks primitive (W b) (seg_or r.entry.prefixes.seg in_ds0) r.entry.prefixes.repeat) r.entry.read }
+{
+    let p = r.prefixes;
+    code_answer::blocks(
+        primitive,
+        b % 2 == 1,
+        p.seg.unwrap_or(DS0),
+        p.repeat,
+        r.read,
+    )
+}
+
+// The displacement after a mod-reg-mem byte: none, a byte with its sign, a word.
+fn displacement(r: Reader, mode: u8) -> NumberRead
+    ensures { Takes ℕ (displacement_read mode) (lent_code r.entry.code) (r.entry.read + 1) result.value result.next 2 }
+{
+    let next = r.read + 1;
+    match mode {
+        0 => NumberRead { value: 0, next },
+        1 => NumberRead {
+            value: r.code.short(next),
+            next: next + 1,
+        },
+        _ => NumberRead {
+            value: r.code.word(next),
+            next: next + 2,
+        },
     }
 }
 
 // Form 6 without displacement is a 16-bit address instead.
-fn address(ram: &[u8], rom: &[u8], ps: u16, pc: u16, p: Prefixes, m: u8, i: u16) -> AddressRead
-    requires { i ≤ 6 }
-    ensures { Takes Address (address_read p (mod_field m) (mem_field m)) (lent_code ram rom ps pc) i result.address result.next 2 }
+fn address(r: Reader, m: u8) -> AddressRead
+    ensures { Takes Address (address_read r.entry.prefixes (mod_field m) (mem_field m)) (lent_code r.entry.code) (r.entry.read + 1) result.address result.next 2 }
 {
-    if m / 64 * 8 + m % 8 == 6 {
-        let offset = code_bytes::code_word(ram, rom, ps, pc, i);
+    if m / 64 == 0 && m % 8 == 6 {
+        let next = r.read + 1;
         return AddressRead {
-            address: direct(p, offset),
-            next: i + 2,
+            address: direct(r.prefixes, r.code.word(next)),
+            next: next + 2,
         };
     }
-    let d = displacement(ram, rom, ps, pc, m / 64, i);
+    let d = displacement(r, m / 64);
     AddressRead {
-        address: formed(p, m % 8, d.value),
+        address: formed(r.prefixes, m % 8, d.value),
         next: d.next,
     }
 }
 
 // The mod-reg-mem byte and what it names: mod 11 is a register.
-pub fn operands(ram: &[u8], rom: &[u8], ps: u16, pc: u16, p: Prefixes, i: u16) -> OperandsRead
-    requires { i ≤ 5 }
-    ensures { Operands p (lent_code ram rom ps pc) i result.reg result.place result.next }
+pub fn operands(r: Reader) -> OperandsRead
+    ensures { Operands r.entry.prefixes (lent_code r.entry.code) r.entry.read result.reg result.place result.next }
 {
-    let m = code_bytes::code_byte(ram, rom, ps, pc, i);
+    let m = r.byte();
     let reg = m / 8 % 8;
     if m / 64 == 3 {
         return OperandsRead {
-            reg: reg,
+            reg,
             place: Place::Register(m % 8),
-            next: i + 1,
+            next: r.read + 1,
         };
     }
-    let a = address(ram, rom, ps, pc, p, m, i + 1);
-    let address = a.address;
+    let a = address(r, m);
     OperandsRead {
-        reg: reg,
-        place: Place::Memory(address),
+        reg,
+        place: Place::Memory(a.address),
         next: a.next,
     }
 }

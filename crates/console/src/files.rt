@@ -1,52 +1,46 @@
 // The files that a session leaves.
-use console_files::Output;
+use crate::arguments::Argument;
+use console_files::Reported;
+use console_trace::seen::Counts;
 use console_turns::Session;
+use std::fs::File;
 
 #[derive(Drop)]
 pub struct Files {
-    pub log: Output,
-    pub ram: Output,
-    pub seen: Output,
-    pub report: Output,
+    log: Option<File>,
+    ram: Option<File>,
+    seen: Option<File>,
+    report: Option<File>,
 }
 
-// Makes those that the arguments name.
-pub fn open(rt: HostRuntime) -> Files {
-    let log = console_files::open(rt, 4);
-    let ram = console_files::open(rt, 9);
-    let seen = console_files::open(rt, 10);
-    let report = console_files::open(rt, 13);
-    Files {
-        log,
-        ram,
-        seen,
-        report,
+impl Files {
+    // Makes those that the arguments name, and says of each that cannot be made why.
+    pub fn open(rt: HostRuntime) -> Result<Files, Reported> {
+        let log = Argument::Log.open(rt);
+        let ram = Argument::RamOut.open(rt);
+        let seen = Argument::Seen.open(rt);
+        let report = Argument::Report.open(rt);
+        Ok(Files {
+            log: log?,
+            ram: ram?,
+            seen: seen?,
+            report: report?,
+        })
     }
-}
 
-pub fn are_open(f: &Files) -> bool {
-    f.log.ok & (f.ram.ok & (f.seen.ok & f.report.ok))
-}
-
-// Writes all but the report, whose file it answers where it could.
-pub fn keep(
-    rt: HostRuntime,
-    f: Files,
-    s: Session,
-    ram: &[u8],
-    log: &[u8],
-    keys: &[u32; 65536],
-    counts: &[u64; 65536],
-) -> Option<Output> {
-    let state = s.state;
-    if !console_files::keep(rt, f.log, b"the log", log, state.progress.log) {
-        return None;
+    // Writes all but the report, whose file it answers.
+    pub fn keep(
+        self,
+        rt: HostRuntime,
+        s: Session,
+        ram: &[u8],
+        log: &[u8],
+        counts: &Counts,
+    ) -> Result<Option<File>, Reported> {
+        let used = console_files::within(s.state.progress.log, log);
+        console_files::keep(rt, self.log, "the log", &log[..used])?;
+        console_files::keep(rt, self.ram, "RAM", ram)?;
+        crate::watch::keep_counts(rt, self.seen, counts)?;
+        Ok(self.report)
     }
-    if !console_files::keep(rt, f.ram, b"RAM", ram, ram.len()) {
-        return None;
-    }
-    if !crate::watch::keep_counts(rt, f.seen, keys, counts) {
-        return None;
-    }
-    Some(f.report)
 }

@@ -1,114 +1,93 @@
 // What the console prints as it ends.
-use console_files::Output;
+use crate::session::Setting;
+use console_files::Reported;
 use console_turns::{Plan, Session};
+use sheet::Refusal;
+use std::fs::File;
+use std::io;
 use std::io::Write;
 
-fn write_all(out: &mut impl Write, text: &[u8]) -> bool {
-    out.write_all(text).is_ok()
-}
-
-// Why a session stopped, in words.
-fn print_words(out: &mut impl Write, number: u8) -> bool {
-    match number {
-        1 => write_all(out, b"RAM and ROM are too long\n"),
-        2 => write_all(out, b"the machine's state is not sound\n"),
-        3 => write_all(out, b"the bytes at PS:PC are no instruction\n"),
-        4 => write_all(out, b"the instruction at PS:PC has a fourth prefix\n"),
-        5 => write_all(
-            out,
-            b"the tape is read to its end and the program wants more\n",
-        ),
-        6 => write_all(
-            out,
-            b"the log is full; --steps or --until stop earlier, and without --log it goes on\n",
-        ),
-        8 => write_all(out, b"the machine is halted\n"),
-        _ => write_all(out, b"\n"),
+// What a refusal says of a session that it ends.
+fn words(refusal: Refusal) -> &'static str {
+    match refusal {
+        Refusal::TooMuchMemory => "RAM and ROM are too long",
+        Refusal::BadState => "the machine's state is not sound",
+        Refusal::UnknownInstruction => "the bytes at PS:PC are no instruction",
+        Refusal::FourthPrefix => "the instruction at PS:PC has a fourth prefix",
+        Refusal::TapeTooShort => "the tape is read to its end and the program wants more",
+        Refusal::NoRoom => {
+            "the log is full; --steps or --until stop earlier, and without --log it goes on"
+        }
+        Refusal::Halted => "the machine is halted",
+        // no run ends so
+        _ => "",
     }
 }
 
-// A session that was stopped from outside has reached its limit or its address.
-fn print_why(out: &mut impl Write, s: Session, plan: Plan) -> bool {
-    if s.number != 0 {
-        return print_words(out, s.number);
+// Why a session stopped, by its number and in words: one that was stopped from outside has reached its limit or its address.
+fn why(s: Session, plan: Plan) -> (u8, &'static str) {
+    match s.end {
+        Err(refusal) => (refusal.number(), words(refusal)),
+        Ok(()) if s.steps < plan.limit => (0, "the address is reached"),
+        Ok(()) => (0, "the step limit is reached"),
     }
-    if s.steps < plan.limit {
-        return write_all(out, b"the address is reached\n");
-    }
-    write_all(out, b"the step limit is reached\n")
-}
-
-// A number behind a text.
-fn print_number(out: &mut impl Write, text: &[u8], n: u64) -> bool {
-    write_all(out, text) & write!(out, "{n}").is_ok()
-}
-
-// The bytes that were written outside RAM, where there are any, and how to find who wrote them.
-fn print_drops(out: &mut impl Write, dropped: u64) -> bool {
-    if dropped == 0 {
-        return true;
-    }
-    print_number(out, b"\ndropped ", dropped)
-        & write_all(out, b" bytes; v30 trace --drops shows which steps")
 }
 
 // The machine's counts.
-fn print_sums(out: &mut impl Write, s: Session, tape: usize) -> bool {
-    let state = s.state;
-    let read = state.progress.tape as u64;
-    let written = std::num::wrapping_add_u64(s.emptied, state.progress.log as u64);
-    print_number(out, b"steps ", s.steps)
-        & (print_number(out, b"\nbus cycles ", s.cycles)
-            & (print_drops(out, s.dropped)
-                & (print_number(out, b"\ntape ", read)
-                    & (print_number(out, b" of ", tape as u64)
-                        & (print_number(out, b" bytes\nlog ", written)
-                            & write_all(out, b" bytes\n"))))))
+fn print_sums(out: &mut impl Write, s: Session, set: Setting<'_>) -> io::Result<()> {
+    let read = s.state.progress.tape;
+    let written = s.emptied.wrapping_add(s.state.progress.log as u64);
+    writeln!(out, "steps {}", s.steps)?;
+    writeln!(out, "bus cycles {}", s.cycles)?;
+    if s.dropped != 0 {
+        // and how to find who wrote outside RAM
+        writeln!(
+            out,
+            "dropped {} bytes; v30 trace --drops shows which steps",
+            s.dropped
+        )?;
+    }
+    writeln!(out, "tape {read} of {} bytes", set.tape.len())?;
+    writeln!(out, "log {written} bytes")
 }
 
 // What the schedule came to, where there is one.
-fn print_calls(out: &mut impl Write, s: Session, calls: usize) -> bool {
-    if calls == 0 {
-        return true;
+fn print_calls(out: &mut impl Write, s: Session, set: Setting<'_>) -> io::Result<()> {
+    if set.calls.is_empty() {
+        return Ok(());
     }
-    print_number(out, b"interrupts ", s.made as u64)
-        & (print_number(out, b" of ", calls as u64)
-            & (print_number(out, b" called, ", s.refused) & write_all(out, b" refused\n")))
+    writeln!(
+        out,
+        "interrupts {} of {} called, {} refused",
+        s.made,
+        set.calls.len(),
+        s.refused
+    )
+}
+
+fn print_end(out: &mut impl Write, s: Session, plan: Plan) -> io::Result<()> {
+    let (number, words) = why(s, plan);
+    writeln!(out, "stopped with {number}: {words}")
 }
 
 // The whole report, its last line last so that a report that is cut short is known.
-fn print_report(
-    out: &mut impl Write,
-    s: Session,
-    plan: Plan,
-    ram: &[u8],
-    rom: &[u8],
-    tape: usize,
-    calls: usize,
-) -> bool {
-    let state = s.state;
-    let file = state.file;
-    print_sums(out, s, tape)
-        & (print_calls(out, s, calls)
-            & (console_trace::write_registers(out, file)
-                & (console_trace::write_stand(out, state, ram, rom)
-                    & (print_number(out, b"stopped with ", s.number as u64)
-                        & (write_all(out, b": ") & print_why(out, s, plan))))))
+fn is_printed(out: &mut impl Write, s: Session, ram: &[u8], set: Setting<'_>) -> bool {
+    print_sums(out, s, set).is_ok()
+        && print_calls(out, s, set).is_ok()
+        && console_trace::write_registers(out, s.state.file)
+        && console_trace::write_stand(out, s.state, ram, set.rom)
+        && print_end(out, s, set.plan).is_ok()
 }
 
 // Writes the report, and says so where it cannot.
 pub fn keep(
     rt: HostRuntime,
-    out: Output,
+    file: Option<File>,
     s: Session,
-    plan: Plan,
     ram: &[u8],
-    rom: &[u8],
-    tape: usize,
-    calls: usize,
-) {
-    let mut to = console_files::descriptor(rt, out);
-    if !print_report(&mut to, s, plan, ram, rom, tape, calls) {
-        console_files::say(rt, b"v30: cannot write the report\n");
-    }
+    set: Setting<'_>,
+) -> Result<(), Reported> {
+    let mut to = console_files::descriptor(rt, file);
+    let written = is_printed(&mut to, s, ram, set);
+    console_files::check_written(rt, "the report", written)
 }

@@ -1,88 +1,67 @@
 // A session: runs and scheduled interrupt calls, one after the other, up to a limit of steps.
 ghost use Rattle.console.specs.Lent.{CalledOn, ContinuedOn, TurnOn, PlaysOn};
 
-use console_turns::{Next, Plan, Session, after, answered, budget, is_called, upcoming};
+use console_schedule::Call;
+use console_turns::{Next, Plan, Session, after, answered, budget, call_now, due, upcoming};
 
-fn interrupted(
-    s: Session,
-    ram: &mut [u8],
-    rom: &[u8],
-    tape: &[u8],
-    log: &[u8],
-    call: u64,
-    plan: Plan,
-) -> Session
-    ensures { CalledOn call plan s ram rom tape log result }
+// What a session is played with and does not change.
+#[derive(Clone, Copy)]
+pub struct Setting<'a> {
+    pub rom: &'a [u8],
+    pub tape: &'a [u8],
+    pub calls: &'a [Call],
+    pub plan: Plan,
+}
+
+fn interrupted(s: Session, ram: &mut [u8], log: &[u8], call: Call, set: Setting<'_>) -> Session
+    ensures { CalledOn call set.entry s ram log result }
 {
-    let state = s.state;
-    let vector = (call / 2 % 256) as u8;
-    let a = step_calls::interrupt(state, ram, rom, tape, log, vector, call % 2 == 1);
-    answered(s, plan, a)
+    let a = step_calls::interrupt(
+        s.state,
+        ram,
+        set.rom,
+        set.tape,
+        log,
+        call.vector,
+        call.maskable,
+    );
+    answered(s, set.plan, a)
 }
 
 fn continued(
     s: Session,
     ram: &mut [u8],
-    rom: &[u8],
-    tape: &[u8],
     log: &mut [u8],
-    n: Next,
-    plan: Plan,
+    next: Option<Next>,
+    set: Setting<'_>,
 ) -> Session
-    ensures { ContinuedOn n plan s ram rom tape log result }
+    ensures { ContinuedOn next set.entry s ram log result }
 {
-    let state = s.state;
-    let r = quick_run::run(
-        state,
-        ram,
-        rom,
-        tape,
-        log,
-        budget(s.steps, plan.limit, n.due, plan.single),
-    );
-    after(s, plan, r, n.waits)
+    let steps = budget(s.steps, set.plan.limit, due(next), set.plan.single);
+    let r = quick_run::run(s.state, ram, set.rom, set.tape, log, steps);
+    after(s, set.plan, r, next.is_some())
 }
 
 // One turn: the next call where it is due, and else a run.
-fn turn(
-    s: Session,
-    ram: &mut [u8],
-    rom: &[u8],
-    tape: &[u8],
-    log: &mut [u8],
-    calls: &[u64],
-    plan: Plan,
-) -> Session
-    ensures { TurnOn calls plan s ram rom tape log result }
+fn turn(s: Session, ram: &mut [u8], log: &mut [u8], set: Setting<'_>) -> Session
+    ensures { TurnOn set.entry s ram log result }
 {
-    let n = upcoming(calls, s);
-    if is_called(s, n, plan.limit) {
-        return interrupted(s, ram, rom, tape, log, n.call, plan);
+    let next = upcoming(set.calls, s);
+    match call_now(s, next, set.plan.limit) {
+        Some(call) => interrupted(s, ram, log, call, set),
+        None => continued(s, ram, log, next, set),
     }
-    continued(s, ram, rom, tape, log, n, plan)
 }
 
 // At most so many turns of a session that is not over.
-pub fn play(
-    s: Session,
-    ram: &mut [u8],
-    rom: &[u8],
-    tape: &[u8],
-    log: &mut [u8],
-    calls: &[u64],
-    plan: Plan,
-    turns: u64,
-) -> Session
-    ensures { PlaysOn turns calls plan s ram rom tape log result }
+pub fn play(mut s: Session, ram: &mut [u8], log: &mut [u8], set: Setting<'_>, turns: u64) -> Session
+    ensures { PlaysOn turns set.entry s ram log result }
 {
-    let mut stand = s;
-    let mut done = 0;
-    while done < turns {
-        if stand.over {
-            return stand;
+    for _turn in 0..turns {
+        if s.over {
+            return s;
         }
-        stand = turn(stand, ram, rom, tape, log, calls, plan);
-        done = done + 1;
+        s = turn(s, ram, log, set);
     }
-    stand
+    s
 }

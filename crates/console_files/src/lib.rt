@@ -1,7 +1,8 @@
 // Arguments, files and clock of the programs that people run: what cannot be used is refused with one line on standard error.
 #![tactic(auto)]
 
-ghost use Rattle.std.specs.Prelude.{◌≤◌, length};
+ghost use Rattle.std.specs.Prelude.{◌≡◌, ◌≤◌, length, is_ok, IfOk, IfSome};
+ghost use Rattle.console_schedule.specs.declared.TheConstants.{MOST};
 
 use std::env::{Env, FillError};
 use std::fmt::InlineText;
@@ -18,6 +19,13 @@ const TOO_LONG: i32 = 36;
 // EILSEQ
 const NO_TEXT: i32 = 84;
 
+// The longest name of a file, and the longest argument.
+const LONGEST: usize = 4096;
+
+// What failed stands on standard error.
+#[derive(Clone, Copy)]
+pub struct Reported;
+
 pub fn say(rt: HostRuntime, text: &[u8]) {
     let _ = Print::write_all(&rt.stderr(), text);
 }
@@ -28,7 +36,7 @@ pub fn say_number(rt: HostRuntime, n: u64) {
 }
 
 // Says what failed, and why.
-fn fail(rt: HostRuntime, what: &[u8], error: io::Error) {
+fn fail(rt: HostRuntime, what: &[u8], error: io::Error) -> Reported {
     let text = InlineText::<128>::of(error);
     // the system's words, without the number that std puts behind them
     let words = text.as_str();
@@ -41,59 +49,22 @@ fn fail(rt: HostRuntime, what: &[u8], error: io::Error) {
     say(rt, b": ");
     say(rt, reason.as_bytes());
     say(rt, b"\n");
+    Reported
 }
 
 // Why an argument is not there.
 fn unfilled(error: FillError) -> io::Error {
-    match error {
-        FillError::NotPresent => io::Error::from_raw_os_error(INVALID),
-        FillError::TooLong => io::Error::from_raw_os_error(TOO_LONG),
-    }
+    io::Error::from_raw_os_error(match error {
+        FillError::NotPresent => INVALID,
+        FillError::TooLong => TOO_LONG,
+    })
 }
 
 // A count that is within a buffer.
-
-pub fn within(n: usize, buffer: &[u8]) -> usize
+pub fn within<T>(n: usize, buffer: &[T]) -> usize
     ensures { result ≤ length buffer.now }
 {
-    if n < buffer.len() {
-        return n;
-    }
-    buffer.len()
-}
-
-pub fn within_calls(n: usize, calls: &[u64]) -> usize
-    ensures { result ≤ length calls.now }
-{
-    if n < calls.len() {
-        return n;
-    }
-    calls.len()
-}
-
-// What was read: whether it could be, and how many bytes.
-#[derive(Clone, Copy)]
-pub struct Loaded {
-    pub ok: bool,
-    pub len: usize,
-}
-
-// Whether a file was read whole; if not, says why.
-fn is_whole(rt: HostRuntime, file: &mut File, path: &[u8]) -> bool {
-    let mut more = [0u8; 1];
-    match file.read(&mut more) {
-        Err(error) => {
-            fail(rt, path, error);
-            false
-        }
-        Ok(0) => true,
-        Ok(_) => {
-            say(rt, b"v30: ");
-            say(rt, path);
-            say(rt, b": too long\n");
-            false
-        }
-    }
+    n.min(buffer.len())
 }
 
 // A name as std takes it; one that is no text is an error.
@@ -104,71 +75,64 @@ fn name(path: &[u8]) -> io::Result<&str> {
     }
 }
 
+// Puts the name that an argument is at the start of `path`, and answers its length.
+fn put_name(rt: HostRuntime, index: usize, path: &mut [u8; 4096]) -> Result<usize, Reported>
+    ensures { IfOk result (λ n. n ≤ 4096) }
+{
+    match rt.arg(index, path) {
+        Ok(n) => Ok(n),
+        Err(error) => Err(fail(rt, b"a file's name", unfilled(error))),
+    }
+}
+
 fn open_read(rt: HostRuntime, path: &[u8]) -> io::Result<File> {
     File::open(&rt, name(path)?)
 }
 
-// Fills a buffer from a file.
-fn load_file(rt: HostRuntime, path: &[u8], out: &mut [u8]) -> Loaded
-    ensures { result.len ≤ length out.new }
+// Fills a buffer from a file, and answers its length; one that does not end within the buffer is too long.
+fn fill_whole(rt: HostRuntime, path: &[u8], out: &mut [u8]) -> Result<usize, Reported>
+    ensures { IfOk result (λ n. n ≤ length out.new) }
 {
-    match open_read(rt, path) {
-        Err(error) => {
-            fail(rt, path, error);
-            Loaded { ok: false, len: 0 }
+    let mut file = match open_read(rt, path) {
+        Ok(file) => file,
+        Err(error) => return Err(fail(rt, path, error)),
+    };
+    let len = base_input::read_full(&mut file, out);
+    match file.read(&mut [0; 1]) {
+        Ok(0) => Ok(len),
+        Ok(_) => {
+            say(rt, b"v30: ");
+            say(rt, path);
+            say(rt, b": too long\n");
+            Err(Reported)
         }
-        Ok(mut file) => {
-            let len = base_input::read_full(&mut file, out);
-            let ok = is_whole(rt, &mut file, path);
-            Loaded { ok, len }
-        }
+        Err(error) => Err(fail(rt, path, error)),
     }
 }
 
-// Fills a buffer from the file that an argument names; an empty argument names none.
-pub fn load(rt: HostRuntime, index: usize, out: &mut [u8]) -> Loaded
-    ensures { result.len ≤ length out.new }
+// Fills a buffer from the file that an argument names, and answers how many bytes it has; an empty argument names none.
+pub fn load(rt: HostRuntime, index: usize, out: &mut [u8]) -> Result<usize, Reported>
+    ensures { IfOk result (λ n. n ≤ length out.new) }
 {
-    let mut path = [0u8; 4096];
-    match rt.arg(index, &mut path) {
-        Err(error) => {
-            fail(rt, b"a file's name", unfilled(error));
-            Loaded { ok: false, len: 0 }
-        }
-        Ok(0) => Loaded { ok: true, len: 0 },
-        Ok(k) => load_file(rt, &path[..k], out),
+    let mut path = [0; LONGEST];
+    match put_name(rt, index, &mut path)? {
+        0 => Ok(0),
+        n => fill_whole(rt, &path[..n], out),
     }
 }
 
 // Whether an argument is empty; one that is missing or too long is not.
 pub fn is_left_out(rt: HostRuntime, index: usize) -> bool {
-    let mut word = [0u8; 4096];
-    matches!(rt.arg(index, &mut word), Ok(0))
+    matches!(rt.arg(index, &mut [0; LONGEST]), Ok(0))
 }
 
 // The number that an argument is; one that is missing or too long is none.
-pub fn number(rt: HostRuntime, index: usize) -> u64 {
-    let mut word = [0u8; 4096];
-    match rt.arg(index, &mut word) {
-        Ok(k) => console_schedule::number(&word[..k]),
-        Err(_) => console_schedule::NONE,
-    }
-}
-
-// A file that is to be written: whether all is well so far, whether one is wanted, and the file where it was made.
-#[derive(Drop)]
-pub struct Output {
-    pub ok: bool,
-    pub wanted: bool,
-    pub file: Option<File>,
-}
-
-fn refused() -> Output {
-    Output {
-        ok: false,
-        wanted: true,
-        file: None,
-    }
+pub fn number(rt: HostRuntime, index: usize) -> Option<u64>
+    ensures { IfSome result (λ n. n ≤ MOST) }
+{
+    let mut word = [0; LONGEST];
+    let n = rt.arg(index, &mut word).ok()?;
+    console_schedule::number(&word[..n])
 }
 
 fn create(rt: HostRuntime, path: &[u8]) -> io::Result<File> {
@@ -178,35 +142,16 @@ fn create(rt: HostRuntime, path: &[u8]) -> io::Result<File> {
         .open(&rt, name(path)?)
 }
 
-// Makes the file of a name; one that exists is left as it is.
-fn open_file(rt: HostRuntime, path: &[u8]) -> Output {
+// Makes the file that an argument names, if it names one; one that exists is left as it is.
+pub fn open(rt: HostRuntime, index: usize) -> Result<Option<File>, Reported> {
+    let mut path = [0; LONGEST];
+    let path = match put_name(rt, index, &mut path)? {
+        0 => return Ok(None),
+        n => &path[..n],
+    };
     match create(rt, path) {
-        Err(error) => {
-            fail(rt, path, error);
-            refused()
-        }
-        Ok(file) => Output {
-            ok: true,
-            wanted: true,
-            file: Some(file),
-        },
-    }
-}
-
-// Makes the file that an argument names; one that exists is left as it is.
-pub fn open(rt: HostRuntime, index: usize) -> Output {
-    let mut path = [0u8; 4096];
-    match rt.arg(index, &mut path) {
-        Err(error) => {
-            fail(rt, b"a file's name", unfilled(error));
-            refused()
-        }
-        Ok(0) => Output {
-            ok: true,
-            wanted: false,
-            file: None,
-        },
-        Ok(k) => open_file(rt, &path[..k]),
+        Ok(file) => Ok(Some(file)),
+        Err(error) => Err(fail(rt, path, error)),
     }
 }
 
@@ -231,75 +176,64 @@ impl Write for Destination {
 }
 
 // Where a file's text goes that is printed when no file is wanted.
-pub fn descriptor(rt: HostRuntime, out: Output) -> Destination {
-    match out.file {
+pub fn descriptor(rt: HostRuntime, file: Option<File>) -> Destination {
+    match file {
         Some(file) => Destination::File(file),
         None => Destination::Standard(rt.stdout()),
     }
 }
 
-fn write_file(mut file: File, bytes: &[u8]) -> bool {
-    Write::write_all(&mut file, bytes).is_ok()
-}
-
-// Writes the used part of a buffer, and says so where it cannot.
-pub fn keep(rt: HostRuntime, out: Output, what: &[u8], bytes: &[u8], used: usize) -> bool {
-    if !out.wanted {
-        return true;
-    }
-    let n = within(used, bytes);
-    let written = match out.file {
-        Some(file) => write_file(file, &bytes[..n]),
-        None => false,
-    };
+// Says so where something could not be written.
+pub fn check_written(rt: HostRuntime, what: &str, written: bool) -> Result<(), Reported>
+    ensures { is_ok result ≡ written }
+{
     if written {
-        return true;
+        return Ok(());
     }
-    say(rt, b"v30: cannot write ");
-    say(rt, what);
-    say(rt, b"\n");
-    false
+    let _ = eprintln!(rt; "v30: cannot write {what}");
+    Err(Reported)
 }
 
-// The second that was seen last, and how many have changed since the last line.
+// Writes bytes to a file that is wanted, and says so where it cannot.
+pub fn keep(rt: HostRuntime, file: Option<File>, what: &str, bytes: &[u8]) -> Result<(), Reported> {
+    match file {
+        None => Ok(()),
+        Some(mut file) => check_written(rt, what, Write::write_all(&mut file, bytes).is_ok()),
+    }
+}
+
+// The second that was seen last, where the clock can be read, and how many have changed since the last line.
 #[derive(Clone, Copy)]
 pub struct Clock {
-    pub second: i64,
-    pub changes: u8,
+    second: Option<u64>,
+    changes: u8,
 }
 
-// The clock's second, and -1 where it cannot be read.
-fn second(rt: HostRuntime) -> i64 {
-    match rt.since_1970() {
-        Ok(time) => i64::try_from(time.as_secs()).unwrap_or(-1),
-        Err(_) => -1,
-    }
+// The clock's second, where it can be read.
+fn second(rt: HostRuntime) -> Option<u64> {
+    rt.since_1970().ok().map(|time| time.as_secs())
 }
 
-pub fn start(rt: HostRuntime) -> Clock {
-    Clock {
-        second: second(rt),
-        changes: 0,
+impl Clock {
+    pub fn start(rt: HostRuntime) -> Clock {
+        Clock {
+            second: second(rt),
+            changes: 0,
+        }
     }
-}
 
-// Says about every fifth second how many steps are done.
-pub fn progress(rt: HostRuntime, clock: Clock, steps: u64) -> Clock {
-    let now_at = second(rt);
-    if now_at == clock.second {
-        return clock;
-    }
-    if clock.changes < 4 {
-        return Clock {
-            second: now_at,
-            changes: clock.changes + 1,
-        };
-    }
-    say(rt, b"v30: ");
-    say_number(rt, steps);
-    say(rt, b" steps so far\n");
-    Clock {
-        second: now_at,
-        changes: 0,
+    // Says about every fifth second how many steps are done.
+    pub fn progress(&mut self, rt: HostRuntime, steps: u64) {
+        let now_at = second(rt);
+        if now_at == self.second {
+            return;
+        }
+        self.second = now_at;
+        if self.changes < 4 {
+            self.changes += 1;
+            return;
+        }
+        self.changes = 0;
+        let _ = eprintln!(rt; "v30: {steps} steps so far");
     }
 }

@@ -1,62 +1,78 @@
-// How often the instruction at each address ran: a table of addresses, each one above what it is so that 0 is free, and of their counts.
-use base_line::{put_byte, put_hex};
+// How often the instruction at each address ran.
+ghost use Rattle.std.specs.Prelude.{◌<◌, IfSome};
+
+use base_line::Line;
 use std::io::Write;
 use std::num::wrapping_add_u64;
 
-// The place of an address in the table, or a free one; a full table has none.
-fn place(keys: &[u32; 65536], key: u32) -> usize {
-    let mut i = (key % 65536) as usize;
-    let mut tries: u32 = 65536;
-    while tries > 0 {
-        let k = keys[i];
-        if (k == key) | (k == 0) {
-            return i;
-        }
-        i = (i + 1) % 65536;
-        tries = tries - 1;
-    }
-    65536
+const PLACES: usize = 65536;
+
+// An address, one above what it is so that 0 is a free place, and its count.
+#[derive(Clone, Copy)]
+struct Count {
+    key: u32,
+    count: u64,
 }
 
-// Counts a step at an address.
-pub fn count(keys: &mut [u32; 65536], counts: &mut [u64; 65536], ps: u16, pc: u16) {
-    let key = mach_memory::address(ps, pc) as u32 + 1;
-    let i = place(keys, key);
-    if i < 65536 {
-        keys[i] = key;
-        counts[i] = wrapping_add_u64(counts[i], 1);
+// A table of addresses and their counts. Where it is full, further addresses are left out.
+#[derive(Drop)]
+pub struct Counts {
+    places: [Count; PLACES],
+}
+
+impl Counts {
+    pub fn new() -> Self {
+        Counts {
+            places: [Count { key: 0, count: 0 }; PLACES],
+        }
+    }
+
+    // The place of an address in the table, or a free one; a full table has none.
+    fn place(&self, key: u32) -> Option<usize>
+        ensures { IfSome result (λ i. i < 65536) }
+    {
+        for step in 0..PLACES {
+            let i = (key as usize + step) % PLACES;
+            let found = self.places[i].key;
+            if found == key || found == 0 {
+                return Some(i);
+            }
+        }
+        None
+    }
+
+    // Counts a step at an address.
+    pub fn count(&mut self, ps: u16, pc: u16) {
+        let key = mach_memory::address(ps, pc) as u32 + 1;
+        if let Some(i) = self.place(key) {
+            let count = wrapping_add_u64(self.places[i].count, 1);
+            self.places[i] = Count { key, count };
+        }
+    }
+
+    // The line of an address, where its instruction ran.
+    fn write_count(&self, out: &mut impl Write, a: u32) -> bool {
+        match self.place(std::num::wrapping_add_u32(a, 1)) {
+            Some(i) if self.places[i].count > 0 => write_line(out, a, self.places[i].count),
+            _ => true,
+        }
+    }
+
+    // A line for each address whose instruction ran, in their order.
+    pub fn write(&self, out: &mut impl Write) -> bool {
+        let mut ok = true;
+        for a in 0..1048576 {
+            ok &= self.write_count(out, a);
+        }
+        ok
     }
 }
 
 fn write_line(out: &mut impl Write, a: u32, n: u64) -> bool {
-    let mut line = crate::blank();
-    let x = put_hex(&mut line, 0, a as u64, 5);
-    let y = put_byte(&mut line, x, b' ');
-    let z = crate::put_decimal(&mut line, y, n);
-    let end = put_byte(&mut line, z, b'\n');
-    crate::write(out, line, end)
-}
-
-// The line of an address, where its instruction ran.
-fn write_count(out: &mut impl Write, keys: &[u32; 65536], counts: &[u64; 65536], a: u32) -> bool {
-    let i = place(keys, std::num::wrapping_add_u32(a, 1));
-    if 65536 <= i {
-        return true;
-    }
-    let n = counts[i];
-    if n == 0 {
-        return true;
-    }
-    write_line(out, a, n)
-}
-
-// A line for each address whose instruction ran, in their order.
-pub fn write_counts(out: &mut impl Write, keys: &[u32; 65536], counts: &[u64; 65536]) -> bool {
-    let mut a: u32 = 0;
-    let mut ok = true;
-    while a < 1048576 {
-        ok = ok & write_count(out, keys, counts, a);
-        a = a + 1;
-    }
-    ok
+    let mut line = Line::new();
+    line.push_hex(a as u64, 5);
+    line.push(b' ');
+    crate::put_decimal(&mut line, n);
+    line.push(b'\n');
+    crate::write(out, &line)
 }

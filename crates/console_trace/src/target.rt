@@ -7,36 +7,39 @@ use sheet::{
 
 pub const DS0: usize = 11;
 
-// Stands for the stack, whose place is known when the step is done. No address is so large.
-pub const STACK: usize = 1048576;
-
-const CARD_STACK: usize = 1048577;
-
-fn of_address(file: &[u16; 14], a: Address) -> usize {
-    mach_memory::address(mach_operand::base(file, a), mach_operand::offset(file, a))
+// An address, or the stack of a mode, whose place is known when the step is done.
+#[derive(Clone, Copy)]
+pub enum Target {
+    At(usize),
+    Stack,
+    CardStack,
 }
 
-fn of_place(file: &[u16; 14], place: Place) -> usize {
+fn of_address(file: &[u16; 14], a: Address) -> Target {
+    Target::At(mach_memory::address(mach_operand::base(file, a), mach_operand::offset(file, a)))
+}
+
+fn of_place(file: &[u16; 14], place: Place) -> Target {
     match place {
-        Place::Register(_) => STACK,
+        Place::Register(_) => Target::Stack,
         Place::Memory(a) => of_address(file, a),
     }
 }
 
 // The block that DS1:IY points to.
-fn of_block(file: &[u16; 14]) -> usize {
-    mach_memory::address(file[DS1], file[IY])
+fn of_block(file: &[u16; 14]) -> Target {
+    Target::At(mach_memory::address(file[DS1], file[IY]))
 }
 
-fn of_arithmetic(file: &[u16; 14], a: Arithmetic) -> usize {
+fn of_arithmetic(file: &[u16; 14], a: Arithmetic) -> Target {
     match a {
         Arithmetic::Two { to, .. } => of_place(file, to),
         Arithmetic::One { to, .. } => of_place(file, to),
-        Arithmetic::Test { .. } => STACK,
+        Arithmetic::Test { .. } => Target::Stack,
     }
 }
 
-fn of_decimal(file: &[u16; 14], d: Decimal) -> usize {
+fn of_decimal(file: &[u16; 14], d: Decimal) -> Target {
     match d {
         Decimal::Rol4 { to } => of_place(file, to),
         Decimal::Ror4 { to } => of_place(file, to),
@@ -44,17 +47,17 @@ fn of_decimal(file: &[u16; 14], d: Decimal) -> usize {
     }
 }
 
-fn of_field(file: &[u16; 14], f: Field) -> usize {
+fn of_field(file: &[u16; 14], f: Field) -> Target {
     match f {
         Field::Ins { .. } => of_block(file),
-        Field::Ext { .. } => STACK,
+        Field::Ext { .. } => Target::Stack,
     }
 }
 
-fn of_compute(file: &[u16; 14], c: Compute) -> usize {
+fn of_compute(file: &[u16; 14], c: Compute) -> Target {
     match c {
         Compute::Calculates(a) => of_arithmetic(file, a),
-        Compute::Converts(_) => STACK,
+        Compute::Converts(_) => Target::Stack,
         Compute::Shifts { to, .. } => of_place(file, to),
         Compute::Bits { to, .. } => of_place(file, to),
         Compute::Decimals(d) => of_decimal(file, d),
@@ -62,74 +65,74 @@ fn of_compute(file: &[u16; 14], c: Compute) -> usize {
     }
 }
 
-fn of_transfer(file: &[u16; 14], t: Transfer) -> usize {
+fn of_transfer(file: &[u16; 14], t: Transfer) -> Target {
     match t {
         Transfer::Mov { to, .. } => of_place(file, to),
         Transfer::StoreAcc { to, .. } => of_address(file, to),
         Transfer::FromSegment { to, .. } => of_place(file, to),
         Transfer::Xch { with, .. } => of_place(file, with),
-        _ => STACK,
+        _ => Target::Stack,
     }
 }
 
-fn of_stack(file: &[u16; 14], s: Stack) -> usize {
+fn of_stack(file: &[u16; 14], s: Stack) -> Target {
     match s {
         Stack::Pop { to } => of_place(file, to),
-        _ => STACK,
+        _ => Target::Stack,
     }
 }
 
-fn of_move(file: &[u16; 14], m: Move) -> usize {
+fn of_move(file: &[u16; 14], m: Move) -> Target {
     match m {
         Move::Transfers(t) => of_transfer(file, t),
         Move::Stacks(s) => of_stack(file, s),
-        _ => STACK,
+        _ => Target::Stack,
     }
 }
 
-fn of_primitive(file: &[u16; 14], p: Primitive) -> usize {
+fn of_primitive(file: &[u16; 14], p: Primitive) -> Target {
     match p {
         Primitive::Movbk => of_block(file),
         Primitive::Stm => of_block(file),
         Primitive::Inm => of_block(file),
-        _ => STACK,
+        _ => Target::Stack,
     }
 }
 
-fn of_point(file: &[u16; 14], p: CardPoint) -> usize {
+fn of_point(file: &[u16; 14], p: CardPoint) -> Target {
     match p {
-        CardPoint::Ldax { .. } => STACK,
+        CardPoint::Ldax { .. } => Target::Stack,
         CardPoint::Stax { pair } => {
-            mach_memory::address(file[DS0], mach_registers::reg(true, file, pair))
+            Target::At(mach_memory::address(file[DS0], mach_registers::reg(true, file, pair)))
         }
     }
 }
 
-fn of_card_arithmetic(file: &[u16; 14], a: CardArithmetic) -> usize {
+fn of_card_arithmetic(file: &[u16; 14], a: CardArithmetic) -> Target {
     match a {
         CardArithmetic::Inr { to } => of_place(file, to),
         CardArithmetic::Dcr { to } => of_place(file, to),
-        _ => STACK,
+        _ => Target::Stack,
     }
 }
 
-fn of_card(file: &[u16; 14], c: Card) -> usize {
+fn of_card(file: &[u16; 14], c: Card) -> Target {
     match c {
         Card::Transfers(t) => of_transfer(file, t),
         Card::Points(p) => of_point(file, p),
         Card::Calculates(a) => of_card_arithmetic(file, a),
-        Card::Branches(_) => CARD_STACK,
-        Card::Stacks(_) => CARD_STACK,
-        _ => STACK,
+        Card::Branches(_) => Target::CardStack,
+        Card::Stacks(_) => Target::CardStack,
+        _ => Target::Stack,
     }
 }
 
-pub fn of(file: &[u16; 14], instr: Instr) -> usize {
+pub fn of(file: &[u16; 14], instr: Instr) -> Target {
     match instr {
         Instr::Computes(c) => of_compute(file, c),
         Instr::Moves(m) => of_move(file, m),
         Instr::Blocks { primitive, .. } => of_primitive(file, primitive),
         Instr::Cards(c) => of_card(file, c),
-        _ => STACK,
+        _ => Target::Stack,
     }
 }

@@ -2,31 +2,31 @@
 // steps of a run, and the stand after a call or a run.
 #![tactic(auto)]
 
-ghost use Rattle.std.specs.Prelude.{◌≡◌, ◌-◌, ◌<◌, min, ◌==◌};
+ghost use Rattle.std.specs.Prelude.{◌≡◌, is_ok};
+ghost use Rattle.step_answer.specs.Steps.{answer_in};
 ghost use Rattle.sheet.specs.Width.{pick};
-ghost use Rattle.console_turns.specs.Stand.{begun, next_of, coming_of, is_called, budget_of, arrives, answered_by, goes_on, stood_by};
+ghost use Rattle.console_turns.specs.Stand.{begun, next_of, coming_of, due_of, is_called, call_now, budget_of, arrives, answered_by, goes_on, stood_by};
 ghost use Rattle.console_turns.specs.Stand.{log_emptied, is_emptied, emptied_by, ran_by};
 
+use console_schedule::Call;
 use mach_registers::{PC, PS};
-use sheet::{Progress, State};
-use std::num::{wrapping_add_u64, wrapping_add_usize};
+use sheet::{Progress, Refusal, State};
 use step_answer::{Answer, Ran};
 
-// How a session is played: its limit of steps, whether its runs are single steps, the address that ends it (1048576 is none), and whether
-// the log is kept.
+// How a session is played: its limit of steps, whether its runs are single steps, the address that ends it, and whether the log is kept.
 #[derive(Clone, Copy)]
 pub struct Plan {
     pub limit: u64,
     pub single: bool,
-    pub until: usize,
+    pub until: Option<usize>,
     pub keeps: bool,
 }
 
-// A session's stand: the number of its last run, the machine, sums, how many of the scheduled calls were made and refused, and how many
+// A session's stand: how its last run ended, the machine, sums, how many of the scheduled calls were made and refused, and how many
 // bytes of the log were let go. Sums are taken modulo 2^64, which 10^11 steps of 1,028 cycles do not reach.
 #[derive(Clone, Copy)]
 pub struct Session {
-    pub number: u8,
+    pub end: Result<(), Refusal>,
     pub state: State,
     pub steps: u64,
     pub cycles: u64,
@@ -42,7 +42,7 @@ pub fn begin(state: State) -> Session
     ensures { result ≡ begun state }
 {
     Session {
-        number: 0,
+        end: Ok(()),
         state,
         steps: 0,
         cycles: 0,
@@ -54,158 +54,146 @@ pub fn begin(state: State) -> Session
     }
 }
 
-fn least(a: u64, b: u64) -> u64
-    ensures { result ≡ min a b }
-{
-    if a < b {
-        return a;
-    }
-    b
-}
-
-// How far a number lies above another, or 0.
-fn above(a: u64, b: u64) -> u64
-    ensures { result ≡ a - b }
-{
-    if b < a {
-        return a - b;
-    }
-    0
-}
-
 // The most steps of one run.
-fn pace(single: bool) -> u64
-    ensures { (result ≡ pick single 1 65535) × (result < 65536) }
+fn pace(single: bool) -> u16
+    ensures { result ≡ pick single 1 65535 }
 {
-    if single {
-        return 1;
-    }
-    65535
+    if single { 1 } else { u16::MAX }
 }
 
 // The steps of the next run: to the limit, to the next call's step, and no more than a run takes.
+#[tactic(auto, unfolding(crate::specs::Stand::budget_of))]
 pub fn budget(steps: u64, limit: u64, due: u64, single: bool) -> u16
     ensures { result ≡ budget_of steps limit due single }
 {
-    let left = least(above(limit, steps), above(due, steps));
-    (least(left, pace(single)) % 65536) as u16
+    let left = limit.saturating_sub(steps).min(due.saturating_sub(steps));
+    left.min(u64::from(pace(single))) as u16
 }
 
-// The next call of the schedule, where one waits; without one none is ever due.
+// The next call of the schedule, and the step that it is due at.
 #[derive(Clone, Copy)]
 pub struct Next {
-    pub waits: bool,
     pub due: u64,
-    pub call: u64,
+    pub call: Call,
 }
 
-fn scheduled(calls: &[u64], made: usize) -> Next
+#[tactic(auto, unfolding(crate::specs::Stand::next_of))]
+fn scheduled(calls: &[Call], made: usize) -> Option<Next>
     ensures { result ≡ next_of calls.now made }
 {
-    if made < calls.len() {
-        let call = calls[made];
-        return Next {
-            waits: true,
-            due: call / 512,
-            call,
-        };
-    }
-    Next {
-        waits: false,
-        due: u64::MAX,
-        call: 0,
-    }
+    let call = *calls.get(made)?;
+    Some(Next {
+        due: call.step,
+        call,
+    })
 }
 
 // A call that would be answered 13, after a segment load, is made after the next step.
-pub fn upcoming(calls: &[u64], s: Session) -> Next
+#[tactic(auto, unfolding(crate::specs::Stand::coming_of))]
+pub fn upcoming(calls: &[Call], s: Session) -> Option<Next>
     ensures { result ≡ coming_of s calls.now }
 {
-    let n = scheduled(calls, s.made);
-    let state = s.state;
-    if state.marks.loaded & (n.due <= s.steps) {
-        return Next {
-            waits: n.waits,
-            due: wrapping_add_u64(s.steps, 1),
-            call: n.call,
-        };
+    let next = scheduled(calls, s.made)?;
+    if s.state.marks.loaded && next.due <= s.steps {
+        return Some(Next {
+            due: s.steps.wrapping_add(1),
+            ..next
+        });
     }
-    n
+    Some(next)
+}
+
+// The step that the next call is due at; without one it is never.
+pub fn due(next: Option<Next>) -> u64
+    ensures { result ≡ due_of next }
+{
+    match next {
+        Some(next) => next.due,
+        None => u64::MAX,
+    }
 }
 
 // Whether the next call is made before the next step: it is due, or the machine is halted and nothing else will wake it.
-pub fn is_called(s: Session, n: Next, limit: u64) -> bool
-    ensures { result ≡ is_called s n limit }
+#[tactic(auto, unfolding(crate::specs::Stand::is_called))]
+pub fn is_called(s: Session, next: Next, limit: u64) -> bool
+    ensures { result ≡ is_called s next limit }
 {
-    let state = s.state;
-    n.waits & ((s.steps < limit) & ((n.due <= s.steps) | state.marks.halted))
+    s.steps < limit && (next.due <= s.steps || s.state.marks.halted)
 }
 
-// How many calls an answer refuses.
-fn refusals(number: u8) -> u64
-    ensures { result ≡ pick (number == 0) 0 1 }
+// The call that is made before the next step, if one is.
+#[tactic(auto, unfolding(crate::specs::Stand::call_now))]
+pub fn call_now(s: Session, next: Option<Next>, limit: u64) -> Option<Call>
+    ensures { result ≡ call_now s next limit }
 {
-    if number == 0 {
-        return 0;
+    match next {
+        Some(next) if is_called(s, next, limit) => Some(next.call),
+        _ => None,
     }
-    1
 }
 
 // Whether a call or a run that was answered so ends the session by its address.
-fn is_there(plan: Plan, number: u8, t: State) -> bool
-    ensures { result ≡ arrives plan number t }
+#[tactic(auto, unfolding(crate::specs::Stand::arrives))]
+fn is_there(plan: Plan, done: bool, t: State) -> bool
+    ensures { result ≡ arrives plan done t }
 {
-    let file = t.file;
-    let a = mach_memory::address(file[PS], file[PC]);
-    (number == 0) & (a == plan.until)
+    let at = mach_memory::address(t.file[PS], t.file[PC]);
+    done && plan.until == Some(at)
 }
 
 // The stand after an interrupt call.
-pub fn answered(s: Session, plan: Plan, a: Answer) -> Session
-    ensures { result ≡ answered_by s plan a.number a.state a.bus }
+#[tactic(auto, unfolding(crate::specs::Stand::answered_by))]
+pub fn answered(s: Session, plan: Plan, a: Result<Answer, Refusal>) -> Session
+    ensures { result ≡ answered_by s plan (is_ok a) (answer_in s.state a).state (answer_in s.state a).bus }
 {
-    let t = a.state;
-    let cycles = a.bus.cycles as u64;
-    let dropped = a.bus.dropped as u64;
+    let done = a.is_ok();
+    // a call that is refused leaves the machine as it was
+    let Answer { state, bus } = a.unwrap_or(Answer {
+        state: s.state,
+        bus: mach_tally::none(),
+    });
+    let cycles = u64::from(bus.cycles);
+    let dropped = u64::from(bus.dropped);
     Session {
-        number: 0,
-        state: t,
-        steps: s.steps,
-        cycles: wrapping_add_u64(s.cycles, cycles),
-        dropped: wrapping_add_u64(s.dropped, dropped),
-        made: wrapping_add_usize(s.made, 1),
-        refused: wrapping_add_u64(s.refused, refusals(a.number)),
-        emptied: s.emptied,
-        over: is_there(plan, a.number, t),
+        end: Ok(()),
+        state,
+        cycles: s.cycles.wrapping_add(cycles),
+        dropped: s.dropped.wrapping_add(dropped),
+        made: s.made.wrapping_add(1),
+        refused: s.refused.wrapping_add(u64::from(!done)),
+        over: is_there(plan, done, state),
+        ..s
     }
 }
 
 // Whether a session goes on after a run; a halted machine waits for the next call, if there is one.
-fn goes_on(number: u8, steps: u64, limit: u64, waits: bool) -> bool
-    ensures { result ≡ goes_on number steps limit waits }
+#[tactic(auto, unfolding(crate::specs::Stand::goes_on))]
+fn goes_on(end: Result<(), Refusal>, steps: u64, limit: u64, waits: bool) -> bool
+    ensures { result ≡ goes_on end steps limit waits }
 {
-    ((number == 0) & (steps < limit)) | ((number == 8) & waits)
+    match end {
+        Ok(()) => steps < limit,
+        Err(Refusal::Halted) => waits,
+        Err(_) => false,
+    }
 }
 
 // The stand after a run whose log stays.
+#[tactic(auto, unfolding(crate::specs::Stand::stood_by))]
 fn stood(s: Session, plan: Plan, r: Ran, waits: bool) -> Session
-    ensures { result ≡ stood_by s plan r.number r.state r.steps r.bus waits }
+    ensures { result ≡ stood_by s plan r.end r.state r.steps r.bus waits }
 {
-    let t = r.state;
-    let steps = wrapping_add_u64(s.steps, r.steps as u64);
-    let cycles = r.bus.cycles as u64;
-    let dropped = r.bus.dropped as u64;
-    let number = r.number;
+    let steps = s.steps.wrapping_add(u64::from(r.steps));
+    let cycles = u64::from(r.bus.cycles);
+    let dropped = u64::from(r.bus.dropped);
     Session {
-        number,
-        state: t,
+        end: r.end,
+        state: r.state,
         steps,
-        cycles: wrapping_add_u64(s.cycles, cycles),
-        dropped: wrapping_add_u64(s.dropped, dropped),
-        made: s.made,
-        refused: s.refused,
-        emptied: s.emptied,
-        over: is_there(plan, number, t) | !goes_on(number, steps, plan.limit, waits),
+        cycles: s.cycles.wrapping_add(cycles),
+        dropped: s.dropped.wrapping_add(dropped),
+        over: is_there(plan, r.end.is_ok(), r.state) || !goes_on(r.end, steps, plan.limit, waits),
+        ..s
     }
 }
 
@@ -213,54 +201,50 @@ fn stood(s: Session, plan: Plan, r: Ran, waits: bool) -> Session
 fn without_log(t: State) -> State
     ensures { result ≡ log_emptied t }
 {
-    let file = t.file;
-    let marks = t.marks;
     State {
-        file,
-        marks,
         progress: Progress {
-            tape: t.progress.tape,
             log: 0,
-            count: t.progress.count,
+            ..t.progress
         },
+        ..t
     }
 }
 
 // Whether the log is full and nobody keeps it.
-fn is_emptied(plan: Plan, number: u8, t: State) -> bool
-    ensures { result ≡ is_emptied plan number t }
+#[tactic(auto, unfolding(crate::specs::Stand::is_emptied))]
+fn is_emptied(plan: Plan, end: Result<(), Refusal>, t: State) -> bool
+    ensures { result ≡ is_emptied plan end t }
 {
-    !plan.keeps & ((number == 6) & (t.progress.log != 0))
+    !plan.keeps && matches!(end, Err(Refusal::NoRoom)) && t.progress.log != 0
 }
 
 // The stand after a run that filled a log that nobody keeps.
+#[tactic(auto, unfolding(crate::specs::Stand::emptied_by))]
 fn let_go(s: Session, r: Ran) -> Session
     ensures { result ≡ emptied_by s r.state r.steps r.bus }
 {
-    let t = r.state;
-    let state = without_log(t);
-    let cycles = r.bus.cycles as u64;
-    let dropped = r.bus.dropped as u64;
+    let cycles = u64::from(r.bus.cycles);
+    let dropped = u64::from(r.bus.dropped);
     Session {
-        number: 0,
-        state,
-        steps: wrapping_add_u64(s.steps, r.steps as u64),
-        cycles: wrapping_add_u64(s.cycles, cycles),
-        dropped: wrapping_add_u64(s.dropped, dropped),
-        made: s.made,
-        refused: s.refused,
-        emptied: wrapping_add_u64(s.emptied, t.progress.log as u64),
+        end: Ok(()),
+        state: without_log(r.state),
+        steps: s.steps.wrapping_add(u64::from(r.steps)),
+        cycles: s.cycles.wrapping_add(cycles),
+        dropped: s.dropped.wrapping_add(dropped),
+        emptied: s.emptied.wrapping_add(r.state.progress.log as u64),
         over: false,
+        ..s
     }
 }
 
 // The stand after a run.
+#[tactic(auto, unfolding(crate::specs::Stand::ran_by))]
 pub fn after(s: Session, plan: Plan, r: Ran, waits: bool) -> Session
-    ensures { result ≡ ran_by s plan r.number r.state r.steps r.bus waits }
+    ensures { result ≡ ran_by s plan r.end r.state r.steps r.bus waits }
 {
-    let t = r.state;
-    if is_emptied(plan, r.number, t) {
-        return let_go(s, r);
+    if is_emptied(plan, r.end, r.state) {
+        let_go(s, r)
+    } else {
+        stood(s, plan, r, waits)
     }
-    stood(s, plan, r, waits)
 }

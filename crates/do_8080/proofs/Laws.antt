@@ -30,10 +30,7 @@ use Rattle.sheet.specs.Contract.{OnMemory, OnMarks}
 use Rattle.mach_tally.specs.Sums.{Free}
 use Rattle.mach_tally.proofs.Bounds.{within_free, within_memory, within_more}
 use Rattle.mach_ports.specs.Accesses.{OnPorts}
-use Rattle.mach_ports.specs.declared.Ported.{Ported}
 use Rattle.do_control.specs.Controls as do-control
-use Rattle.do_mode.specs.declared.Moded.{Moded}
-use Rattle.do_8080.specs.declared.Carded.{Carded}
 use Rattle.do_8080.specs.Lent.{OnAll}
 
 -- ---- which tree an instruction is
@@ -73,17 +70,10 @@ module _ (i : Card) where
 
 -- ---- what the code hands on
 
-abbrev pub Comes : Act Unit → (f ram rom tape log : List ℕ) → Marks → Progress → Carded → (f' ram' log' : List ℕ) → ℕ → Type 0
-Comes p f ram rom tape log m q x f' ram' log' top = OnAll p f ram rom tape log m q x.number f' ram' log' x.marks x.progress x.bus top
-
-abbrev pub handed : ℕ → Marks → Progress → Bus → Carded
-handed number m q n = record { number = number; marks = m; progress = q; bus = n }
-
-module _ (o : Act Unit) (f g ram ram' rom tape log : List ℕ) (m : Marks) (q : Progress) (x : Carded) (top : ℕ) where
+module _ (o : Act Unit) (f g ram ram' rom tape log : List ℕ) (m : Marks) (q : Progress) (top : ℕ) where
   -- code that is lent the memory
-  pub at_quiet : (p : Act Unit) (n : Bus) (k : ℕ) → o ≡ p → k ≤ top → OnMemory Unit p f ram rom tt g ram' n k → x ≡ handed 0 m q n
-      → Comes o f ram rom tape log m q x g ram' log top
-  at_quiet p n k e l h u = rw (e, u) (record {
+  pub at_quiet : (p : Act Unit) (n : Bus) (k : ℕ) → o ≡ p → k ≤ top → OnMemory Unit p f ram rom tt g ram' n k → OnAll o f ram rom tape log m q 0 g ram' log m q n top
+  at_quiet p n k e l h = rw e (record {
     most = within_more l (within_memory h);
     done = λ z. h.at (state_of f m q) tape log;
     stop = λ z. absurd (z refl);
@@ -91,9 +81,9 @@ module _ (o : Act Unit) (f g ram ram' rom tape log : List ℕ) (m : Marks) (q : 
   })
 
   -- code that is lent the ports too
-  pub at_through : (p : Act Unit) (r : Ported) (log' : List ℕ) (k : ℕ) → o ≡ p → k ≤ top → OnPorts p f ram rom tape log q r.number g ram' log' r.progress r.bus k
-      → x ≡ handed r.number m r.progress r.bus → Comes o f ram rom tape log m q x g ram' log' top
-  at_through p r log' k e l h u = rw (e, u) (record {
+  pub at_through : (p : Act Unit) (number : ℕ) (log' : List ℕ) (q' : Progress) (n : Bus) (k : ℕ) → o ≡ p → k ≤ top → OnPorts p f ram rom tape log q number g ram' log' q' n k
+      → OnAll o f ram rom tape log m q number g ram' log' m q' n top
+  at_through p number log' q' n k e l h = rw e (record {
     most = within_more l h.most;
     done = λ z. h.done z m;
     stop = λ z. h.stop z m;
@@ -101,18 +91,16 @@ module _ (o : Act Unit) (f g ram ram' rom tape log : List ℕ) (m : Marks) (q : 
   })
 
   -- code that is lent the marks
-  pub at_control : (t : Control) (m' : Marks) (n : Bus) → o ≡ control t → do-control.Controls t f m g m' → Free n → x ≡ handed 0 m' q n
-      → Comes o f ram rom tape log m q x g ram log top
-  at_control t m' n e h c u = rw (e, u) (record {
+  pub at_control : (t : Control) (m' : Marks) (n : Bus) → o ≡ control t → do-control.Controls t f m g m' → Free n → OnAll o f ram rom tape log m q 0 g ram log m' q n top
+  at_control t m' n e h c = rw e (record {
     most = within_free c;
     done = λ z. rw c.is (h.at q ram rom tape log);
     stop = λ z. absurd (z refl);
     same = λ z. absurd (z refl);
   })
 
-  pub at_marked : (p : Act Unit) (r : Moded) (k : ℕ) → o ≡ p → k ≤ top → OnMarks Unit p f ram rom m tt g ram' r.marks r.bus k → x ≡ handed 0 r.marks q r.bus
-      → Comes o f ram rom tape log m q x g ram' log top
-  at_marked p r k e l h u = rw (e, u) (record {
+  pub at_marked : (p : Act Unit) (m' : Marks) (n : Bus) (k : ℕ) → o ≡ p → k ≤ top → OnMarks Unit p f ram rom m tt g ram' m' n k → OnAll o f ram rom tape log m q 0 g ram' log m' q n top
+  at_marked p m' n k e l h = rw e (record {
     most = within_more l (record { cycles = h.most; dropped = h.fair });
     done = λ z. h.at q tape log;
     stop = λ z. absurd (z refl);

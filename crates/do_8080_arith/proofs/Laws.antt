@@ -8,7 +8,7 @@ use lib.ListN.{get_or, set}
 use Rattle.sheet.specs.declared.Bus.{Bus}
 use Rattle.sheet.specs.declared.Flagged.{Flagged}
 use Rattle.sheet.specs.declared.Operation.{Operation}
-use Rattle.sheet.specs.declared.Operation.TheVariants.{Cmp}
+use Rattle.sheet.specs.declared.Operation.TheVariants.{Add, Or, Addc, Subc, And, Sub, Xor, Cmp}
 use Rattle.sheet.specs.declared.Unary.TheVariants.{Not}
 use Rattle.sheet.specs.declared.Place.{Place}
 use Rattle.sheet.specs.declared.Source.{Source}
@@ -35,9 +35,17 @@ use Rattle.calc_8080.specs.CardOperate.{card_operated}
 use Rattle.calc_8080.proofs.Laws.{operate_file}
 
 module _ (f g : List ℕ) where
-  -- an operation that is known to be another
-  pub concludes : (op o : Operation) (v : ℕ) → op ≡ o → OnFile Unit (conclude o false (InRegister AL) v) f tt g → OnFile Unit (conclude op false (InRegister AL) v) f tt g
-  concludes op o v e h = rw e h
+  -- any but CMP
+  pub concludes : (op : Operation) (v : ℕ) → (op ≡ Cmp → ⊥) → OnFile Unit (set_reg false AL v) f tt g → OnFile Unit (conclude op false (InRegister AL) v) f tt g
+  unfolding conclude deposit
+  concludes Add v e h = h
+  concludes Or v e h = h
+  concludes Addc v e h = h
+  concludes Subc v e h = h
+  concludes And v e h = h
+  concludes Sub v e h = h
+  concludes Xor v e h = h
+  concludes Cmp v e h = absurd (e refl)
 
   pub drops_cmp : (op : Operation) (v : ℕ) → op ≡ Cmp → OnFile Unit (conclude op false (InRegister AL) v) f tt f
   unfolding conclude

@@ -1,34 +1,27 @@
 // Arithmetic of the 8080 mode, and LDAX and STAX.
 #![tactic(auto)]
 
-ghost use Rattle.std.specs.Prelude.{false};
+ghost use Rattle.std.specs.Prelude.{◌≡◌, false};
 ghost use Rattle.sheet.specs.Registers.{AL};
 ghost use Rattle.sheet.specs.declared.Spot.TheVariants.{InRegister};
 ghost use Rattle.sheet.specs.Arithmetic as native;
 ghost use Rattle.sheet.specs.CardArithmetic as tree;
 ghost use Rattle.sheet.specs.CardPoint as through;
 ghost use Rattle.sheet.specs.Contract.{OnFile};
+ghost use Rattle.calc_8080.specs.CardOperate.{card_stepped, pair_stepped};
 ghost use Rattle.mach_tally.specs.Lent.{Does};
 
-use mach_registers::PSW;
+use mach_registers::{DS0, PSW};
 use sheet::cards::{CardArithmetic, CardPoint};
-use sheet::{Bus, Operation, Place, Shift, Source, Unary};
-
-const DS0: usize = 11;
+use sheet::{Bus, Operation, Place, Shift, Source, Unary, Way};
 
 // CMP drops the difference.
 fn conclude(file: &mut [u16; 14], op: Operation, v: u16)
     ensures { OnFile Unit (native.conclude op false (InRegister AL) v) file.old tt file.new }
 {
     match op {
-        Operation::Add => mach_registers::set_reg(false, file, 0, v),
-        Operation::Or => mach_registers::set_reg(false, file, 0, v),
-        Operation::Addc => mach_registers::set_reg(false, file, 0, v),
-        Operation::Subc => mach_registers::set_reg(false, file, 0, v),
-        Operation::And => mach_registers::set_reg(false, file, 0, v),
-        Operation::Sub => mach_registers::set_reg(false, file, 0, v),
-        Operation::Xor => mach_registers::set_reg(false, file, 0, v),
         Operation::Cmp => {}
+        _ => mach_registers::set_reg(false, file, 0, v),
     }
 }
 
@@ -44,41 +37,34 @@ fn two(file: &mut [u16; 14], ram: &mut [u8], rom: &[u8], op: Operation, from: So
     b.bus
 }
 
-fn inr(file: &mut [u16; 14], ram: &mut [u8], rom: &[u8], to: Place) -> Bus
-    ensures { Does (tree.changing tree.increased to) file ram rom result 4 }
+// INR or DCR.
+fn step(file: &mut [u16; 14], ram: &mut [u8], rom: &[u8], way: Way, to: Place) -> Bus
+    ensures { Does (tree.changing (card_stepped way) to) file ram rom result 4 }
 {
     let spot = mach_operand::locate(file, to);
     let a = mach_operand::fetch(false, file, ram, rom, spot);
-    let x = calc_8080::increased(a.value, file[PSW]);
+    let x = calc_8080::stepped(way, a.value, file[PSW]);
     file[PSW] = x.psw;
     let b = mach_operand::deposit(false, file, ram, rom, spot, x.value);
     mach_tally::both(a.bus, b)
 }
 
-fn dcr(file: &mut [u16; 14], ram: &mut [u8], rom: &[u8], to: Place) -> Bus
-    ensures { Does (tree.changing tree.decreased to) file ram rom result 4 }
+#[tactic(auto, unfolding(calc_8080::specs::CardOperate::pair_stepped))]
+fn next(way: Way, x: u16) -> u16
+    ensures { result ≡ pair_stepped way x }
 {
-    let spot = mach_operand::locate(file, to);
-    let a = mach_operand::fetch(false, file, ram, rom, spot);
-    let x = calc_8080::decreased(a.value, file[PSW]);
-    file[PSW] = x.psw;
-    let b = mach_operand::deposit(false, file, ram, rom, spot, x.value);
-    mach_tally::both(a.bus, b)
+    match way {
+        Way::Addition => calc_word::plus16(x, 1),
+        Way::Subtraction => calc_word::minus16(x, 1),
+    }
 }
 
-fn inx(file: &mut [u16; 14], ram: &mut [u8], rom: &[u8], pair: u8) -> Bus
-    ensures { Does (tree.counting tree.up pair) file ram rom result 4 }
+// INX or DCX.
+fn step_pair(file: &mut [u16; 14], ram: &mut [u8], rom: &[u8], way: Way, pair: u8) -> Bus
+    ensures { Does (tree.counting (pair_stepped way) pair) file ram rom result 4 }
 {
     let x = mach_registers::reg(true, file, pair);
-    mach_registers::set_reg(true, file, pair, calc_word::plus16(x, 1));
-    mach_tally::none()
-}
-
-fn dcx(file: &mut [u16; 14], ram: &mut [u8], rom: &[u8], pair: u8) -> Bus
-    ensures { Does (tree.counting tree.down pair) file ram rom result 4 }
-{
-    let x = mach_registers::reg(true, file, pair);
-    mach_registers::set_reg(true, file, pair, calc_word::minus16(x, 1));
+    mach_registers::set_reg(true, file, pair, next(way, x));
     mach_tally::none()
 }
 
@@ -130,10 +116,10 @@ pub fn calculate(file: &mut [u16; 14], ram: &mut [u8], rom: &[u8], i: CardArithm
 {
     match i {
         CardArithmetic::Two { op, from } => two(file, ram, rom, op, from),
-        CardArithmetic::Inr { to } => inr(file, ram, rom, to),
-        CardArithmetic::Dcr { to } => dcr(file, ram, rom, to),
-        CardArithmetic::Inx { pair } => inx(file, ram, rom, pair),
-        CardArithmetic::Dcx { pair } => dcx(file, ram, rom, pair),
+        CardArithmetic::Inr { to } => step(file, ram, rom, Way::Addition, to),
+        CardArithmetic::Dcr { to } => step(file, ram, rom, Way::Subtraction, to),
+        CardArithmetic::Inx { pair } => step_pair(file, ram, rom, Way::Addition, pair),
+        CardArithmetic::Dcx { pair } => step_pair(file, ram, rom, Way::Subtraction, pair),
         CardArithmetic::Dad { pair } => dad(file, ram, rom, pair),
         CardArithmetic::Rotate { kind } => rotate(file, ram, rom, kind),
         CardArithmetic::Daa => daa(file, ram, rom),

@@ -46,6 +46,7 @@ fn ret(file: &mut [u16; 14], ram: &mut [u8], rom: &[u8]) -> Bus
     v.bus
 }
 
+// This and the next two share a question alone: a function that takes what follows it would have registers and memory in a closure's contract.
 fn jump_if(file: &mut [u16; 14], ram: &mut [u8], rom: &[u8], condition: u8, to: u16) -> Bus
     ensures { Does (tree.provided condition (tree.jmp to)) file ram rom result 2 }
 {

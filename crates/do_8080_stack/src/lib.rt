@@ -6,12 +6,11 @@ ghost use Rattle.sheet.specs.CardStack as tree;
 ghost use Rattle.mach_tally.specs.Lent.{Does, Takes};
 
 use mach_memory::Loaded;
-use mach_registers::{AW, BP, BW, PSW};
+use mach_registers::{AW, BP, BW, DS0, PSW};
 use sheet::Bus;
 use sheet::cards::CardStack;
 
-const DS0: usize = 11;
-
+// As mach_stack has it, of two other registers: one function for both would need a contract beside the four that say which tree each is.
 pub fn push(file: &mut [u16; 14], ram: &mut [u8], rom: &[u8], v: u16) -> Bus
     ensures { Does (tree.card_push v) file ram rom result 2 }
 {

@@ -1,6 +1,6 @@
 -- What each instruction comes to, from what its parts come to.
 use Prim.Native.Nat.{ℕ}
-use mathlib.Core.Path.{◌≡◌}
+use mathlib.Core.Path.{◌≡◌, refl}
 use mathlib.Core.Bool.{Bool}
 use mathlib.Core.List.{List}
 use lib.Bits.{bit_and}
@@ -9,7 +9,7 @@ use lib.ListN.{get_or, set}
 use Rattle.sheet.specs.declared.Bus.{Bus}
 use Rattle.sheet.specs.declared.Flagged.{Flagged}
 use Rattle.sheet.specs.declared.Operation.{Operation}
-use Rattle.sheet.specs.declared.Operation.TheVariants.{Cmp}
+use Rattle.sheet.specs.declared.Operation.TheVariants.{Add, Or, Addc, Subc, And, Sub, Xor, Cmp}
 use Rattle.sheet.specs.declared.Unary.{Unary}
 use Rattle.sheet.specs.declared.Place.{Place}
 use Rattle.sheet.specs.declared.Source.{Source}
@@ -30,8 +30,17 @@ operate_file : (op : Operation) (w : Bool) (a b : ℕ) (f : List ℕ) → OnFile
 operate_file op w a b f = record { at = λ s ram rom tape log. operate_ends op w a b _ }
 
 module _ (f g ram ram' rom : List ℕ) where
-  pub concludes : (op o : Operation) (w : Bool) (s : Spot) (v : ℕ) (n : Bus) → op ≡ o → OnMemory Unit (conclude o w s v) f ram rom tt g ram' n 2 → OnMemory Unit (conclude op w s v) f ram rom tt g ram' n 2
-  concludes op o w s v n e h = rw e h
+  -- any but CMP
+  pub concludes : (op : Operation) (w : Bool) (s : Spot) (v : ℕ) (n : Bus) → (op ≡ Cmp → ⊥) → OnMemory Unit (deposit w s v) f ram rom tt g ram' n 2 → OnMemory Unit (conclude op w s v) f ram rom tt g ram' n 2
+  unfolding conclude
+  concludes Add w s v n e h = h
+  concludes Or w s v n e h = h
+  concludes Addc w s v n e h = h
+  concludes Subc w s v n e h = h
+  concludes And w s v n e h = h
+  concludes Sub w s v n e h = h
+  concludes Xor w s v n e h = h
+  concludes Cmp w s v n e h = absurd (e refl)
 
   pub drops_cmp : (op : Operation) (w : Bool) (s : Spot) (v : ℕ) → op ≡ Cmp → OnMemory Unit (conclude op w s v) f ram rom tt f ram nothing 2
   unfolding conclude

@@ -22,14 +22,8 @@ fn conclude(
     ensures { Does (tree.conclude op word spot v) file ram rom result 2 }
 {
     match op {
-        Operation::Add => mach_operand::deposit(word, file, ram, rom, spot, v),
-        Operation::Or => mach_operand::deposit(word, file, ram, rom, spot, v),
-        Operation::Addc => mach_operand::deposit(word, file, ram, rom, spot, v),
-        Operation::Subc => mach_operand::deposit(word, file, ram, rom, spot, v),
-        Operation::And => mach_operand::deposit(word, file, ram, rom, spot, v),
-        Operation::Sub => mach_operand::deposit(word, file, ram, rom, spot, v),
-        Operation::Xor => mach_operand::deposit(word, file, ram, rom, spot, v),
         Operation::Cmp => mach_tally::none(),
+        _ => mach_operand::deposit(word, file, ram, rom, spot, v),
     }
 }
 

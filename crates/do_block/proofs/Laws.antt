@@ -1,7 +1,7 @@
 -- What each primitive comes to, from what its parts come to; then the group.
 use Prim.Native.Nat.{ℕ}
-use mathlib.Core.Path.{◌≡◌, refl, sym, ◌∙◌}
-use mathlib.Core.Bool.{Bool, true, false, true≢false}
+use mathlib.Core.Path.{◌≡◌, refl}
+use mathlib.Core.Bool.{Bool, false}
 use mathlib.Core.List.{List}
 use lib.Dec.{lit≤}
 use lib.ListN.{get_or}
@@ -27,7 +27,7 @@ use Rattle.mach_element.specs.Due.{due_of, due_tree}
 use Rattle.mach_element.proofs.DueLaws.{element_is, due_memory}
 use Rattle.do_block.specs.declared.Portless.{Portless}
 use Rattle.do_block.specs.declared.Portless.TheVariants.{Movbk, Cmpbk, Cmpm, Ldm, Stm}
-use Rattle.do_block.specs.Portless.{primitive_of, is_nothing, is_element}
+use Rattle.do_block.specs.Portless.{primitive_of}
 
 module _ (f g h ram ram' rom : List ℕ) (w : Bool) (seg : ℕ) where
   pub movbk_is : (v : ℕ) (n m : Bus) → OnMemory ℕ (source_element w seg) f ram rom v f ram n 2 → OnMemory Unit (set_target w v) f ram rom tt f ram' m 2
@@ -65,43 +65,24 @@ module _ (i : Portless) (f g ram ram' rom : List ℕ) (n : Bus) (w : Bool) (seg 
 
 -- ---- what is due
 
-pub nothing_at : (d e : Due) (b : Bool) → d ≡ e → b ≡ is_nothing e → b ≡ is_nothing d
-nothing_at d e b q h = rw q h
-
-pub element_at : (d e : Due) (b : Bool) → d ≡ e → b ≡ is_element e → b ≡ is_element d
-element_at d e b q h = rw q h
-
-nothing_due : (d : Due) → is_nothing d ≡ true → d ≡ Nothing
-unfolding is_nothing
-nothing_due Nothing e = refl
-nothing_due Single e = absurd (true≢false (sym e))
-nothing_due Element e = absurd (true≢false (sym e))
-
-single_due : (d : Due) → is_nothing d ≡ false → is_element d ≡ false → d ≡ Single
-unfolding is_nothing is_element
-single_due Nothing e h = absurd (true≢false e)
+single_due : (d : Due) → (d ≡ Nothing → ⊥) → (d ≡ Element → ⊥) → d ≡ Single
+single_due Nothing e h = absurd (e refl)
 single_due Single e h = refl
-single_due Element e h = absurd (true≢false h)
+single_due Element e h = absurd (h refl)
 
-element_due : (d : Due) → is_element d ≡ true → d ≡ Element
-unfolding is_element
-element_due Nothing e = absurd (true≢false (sym e))
-element_due Single e = absurd (true≢false (sym e))
-element_due Element e = refl
-
-module _ (k : Primitive) (w : Bool) (seg : ℕ) (q : Repeat) (start : ℕ) (f ram rom : List ℕ) (d : Due) (due : d ≡ due_of (get_or f CW 0) q) (none : Bool) (asked : none ≡ is_nothing d) where
+module _ (k : Primitive) (w : Bool) (seg : ℕ) (q : Repeat) (start : ℕ) (f ram rom : List ℕ) (d : Due) (due : d ≡ due_of (get_or f CW 0) q) where
   known : (e : Due) (g ram' : List ℕ) (n : Bus) → d ≡ e → OnMemory Unit (due_tree e k w seg q start) f ram rom tt g ram' n 4 → OnMemory Unit (block k w seg q start) f ram rom tt g ram' n 4
   known e g ram' n z h = due_memory k w seg q start d due (rw z h)
 
-  pub block_none : (n : Bus) → none ≡ true → Free n → OnMemory Unit (block k w seg q start) f ram rom tt f ram n 4
+  pub block_none : (n : Bus) → d ≡ Nothing → Free n → OnMemory Unit (block k w seg q start) f ram rom tt f ram n 4
   unfolding due_tree
-  block_none n e z = known Nothing f ram n (nothing_due d (sym asked ∙ e)) (memory_none z (on_memory ram rom 4 file_pure))
+  block_none n e z = known Nothing f ram n e (memory_none z (on_memory ram rom 4 file_pure))
 
-  module _ (more : Bool) (asks : more ≡ is_element d) (g ram' : List ℕ) (n : Bus) (p : OnMemory Unit (primitive k w seg) f ram rom tt g ram' n 4) where
-    pub block_single : none ≡ false → more ≡ false → OnMemory Unit (block k w seg q start) f ram rom tt g ram' n 4
+  module _ (g ram' : List ℕ) (n : Bus) (p : OnMemory Unit (primitive k w seg) f ram rom tt g ram' n 4) where
+    pub block_single : (d ≡ Nothing → ⊥) → (d ≡ Element → ⊥) → OnMemory Unit (block k w seg q start) f ram rom tt g ram' n 4
     unfolding due_tree
-    block_single e z = known Single g ram' n (single_due d (sym asked ∙ e) (sym asks ∙ z)) p
+    block_single e z = known Single g ram' n (single_due d e z) p
 
-    pub block_element : (i : Primitive) (h : List ℕ) → more ≡ true → i ≡ k → OnFile Unit (after_element i q start) g tt h → OnMemory Unit (block k w seg q start) f ram rom tt h ram' n 4
+    pub block_element : (i : Primitive) (h : List ℕ) → d ≡ Element → i ≡ k → OnFile Unit (after_element i q start) g tt h → OnMemory Unit (block k w seg q start) f ram rom tt h ram' n 4
     unfolding due_tree
-    block_element i h e z x = known Element h ram' n (element_due d (sym asks ∙ e)) (rw (element_is k w seg q start) (memory_last _ p (rw z at x)))
+    block_element i h e z x = known Element h ram' n e (rw (element_is k w seg q start) (memory_last _ p (rw z at x)))

@@ -8,10 +8,10 @@ ghost use Rattle.sheet.specs.Arithmetic.{difference};
 ghost use Rattle.sheet.specs.Block as tree;
 ghost use Rattle.sheet.specs.Contract.{OnFile};
 ghost use Rattle.mach_tally.specs.Lent.{Does};
-ghost use Rattle.do_block.specs.Portless.{primitive_of, is_nothing, is_element};
+ghost use Rattle.do_block.specs.Portless.{primitive_of};
 
 use mach_element::Due;
-use mach_registers::{CW, PSW};
+use mach_registers::{CW, IX, IY, PSW};
 use sheet::{Bus, Primitive, Repeat};
 
 // The flags of a comparison.
@@ -27,8 +27,8 @@ fn movbk(file: &mut [u16; 14], ram: &mut [u8], rom: &[u8], word: bool, seg: u8) 
 {
     let v = mach_element::source_element(word, file, ram, rom, seg);
     let b = mach_element::set_target(word, file, ram, rom, v.value);
-    mach_element::step_ix(word, file);
-    mach_element::step_iy(word, file);
+    mach_element::step_index(word, file, IX);
+    mach_element::step_index(word, file, IY);
     mach_tally::both(v.bus, b)
 }
 
@@ -38,8 +38,8 @@ fn cmpbk(file: &mut [u16; 14], ram: &mut [u8], rom: &[u8], word: bool, seg: u8) 
     let a = mach_element::source_element(word, file, ram, rom, seg);
     let b = mach_element::target_element(word, file, ram, rom);
     compare(word, file, a.value, b.value);
-    mach_element::step_ix(word, file);
-    mach_element::step_iy(word, file);
+    mach_element::step_index(word, file, IX);
+    mach_element::step_index(word, file, IY);
     mach_tally::both(a.bus, b.bus)
 }
 
@@ -49,7 +49,7 @@ fn cmpm(file: &mut [u16; 14], ram: &mut [u8], rom: &[u8], word: bool, seg: u8) -
     let a = mach_registers::reg(word, file, 0);
     let b = mach_element::target_element(word, file, ram, rom);
     compare(word, file, a, b.value);
-    mach_element::step_iy(word, file);
+    mach_element::step_index(word, file, IY);
     b.bus
 }
 
@@ -58,7 +58,7 @@ fn ldm(file: &mut [u16; 14], ram: &mut [u8], rom: &[u8], word: bool, seg: u8) ->
 {
     let v = mach_element::source_element(word, file, ram, rom, seg);
     mach_registers::set_reg(word, file, 0, v.value);
-    mach_element::step_ix(word, file);
+    mach_element::step_index(word, file, IX);
     v.bus
 }
 
@@ -67,7 +67,7 @@ fn stm(file: &mut [u16; 14], ram: &mut [u8], rom: &[u8], word: bool, seg: u8) ->
 {
     let v = mach_registers::reg(word, file, 0);
     let b = mach_element::set_target(word, file, ram, rom, v);
-    mach_element::step_iy(word, file);
+    mach_element::step_index(word, file, IY);
     b
 }
 
@@ -81,15 +81,17 @@ pub enum Portless {
     Stm,
 }
 
-fn named(kind: Portless) -> Primitive
-    ensures { result ≡ primitive_of kind }
-{
-    match kind {
-        Portless::Movbk => Primitive::Movbk,
-        Portless::Cmpbk => Primitive::Cmpbk,
-        Portless::Cmpm => Primitive::Cmpm,
-        Portless::Ldm => Primitive::Ldm,
-        Portless::Stm => Primitive::Stm,
+impl From<Portless> for Primitive {
+    ghost from_gives = { λ kind p. p ≡ primitive_of kind };
+
+    fn from(kind: Portless) -> Primitive {
+        match kind {
+            Portless::Movbk => Primitive::Movbk,
+            Portless::Cmpbk => Primitive::Cmpbk,
+            Portless::Cmpm => Primitive::Cmpm,
+            Portless::Ldm => Primitive::Ldm,
+            Portless::Stm => Primitive::Stm,
+        }
     }
 }
 
@@ -112,26 +114,6 @@ fn primitive(
     }
 }
 
-fn is_nothing(due: Due) -> bool
-    ensures { result ≡ is_nothing due }
-{
-    match due {
-        Due::Nothing => true,
-        Due::Single => false,
-        Due::Element => false,
-    }
-}
-
-fn is_element(due: Due) -> bool
-    ensures { result ≡ is_element due }
-{
-    match due {
-        Due::Nothing => false,
-        Due::Single => false,
-        Due::Element => true,
-    }
-}
-
 // One element of an instruction whose first prefix is at the offset `start`. One call of the primitive, so that it is built in: each call
 // more copies the slices that it is lent.
 pub fn block(
@@ -147,13 +129,12 @@ pub fn block(
     ensures { Does (tree.block (primitive_of kind) word seg repeat start) file ram rom result 4 }
 {
     let due = mach_element::what_is_due(file[CW], repeat);
-    if is_nothing(due) {
+    if let Due::Nothing = due {
         return mach_tally::none();
     }
     let b = primitive(file, ram, rom, kind, word, seg);
-    if is_element(due) {
-        let k = named(kind);
-        mach_element::finish_element(file, k, repeat, start);
+    if let Due::Element = due {
+        mach_element::finish_element(file, Primitive::from(kind), repeat, start);
     }
     b
 }

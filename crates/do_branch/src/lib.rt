@@ -80,11 +80,7 @@ pub fn branch(file: &mut [u16; 14], ram: &mut [u8], rom: &[u8], i: Branch) -> Bu
         Branch::RetPop { size } => ret_pop(file, ram, rom, size),
         Branch::RetFar => ret_far(file, ram, rom),
         Branch::RetFarPop { size } => ret_far_pop(file, ram, rom, size),
-        Branch::BrNear { disp } => {
-            mach_jump::jump(file, disp);
-            mach_tally::none()
-        }
-        Branch::BrShort { disp } => {
+        Branch::BrNear { disp } | Branch::BrShort { disp } => {
             mach_jump::jump(file, disp);
             mach_tally::none()
         }

@@ -5,6 +5,7 @@ ghost use Rattle.std.specs.Prelude.{Bool};
 ghost use Rattle.sheet.specs.Branch as tree;
 ghost use Rattle.sheet.specs.Contract.{OnFile};
 
+use calc_flags::{CY, P, S, V, Z, flag};
 use mach_registers::{CW, PSW};
 use sheet::Conditional;
 
@@ -14,14 +15,14 @@ fn asked(file: &[u16; 14], n: u8) -> bool
 {
     let psw = file[PSW];
     match n / 2 % 8 {
-        0 => calc_flags::v(psw),
-        1 => calc_flags::cy(psw),
-        2 => calc_flags::z(psw),
-        3 => calc_flags::cy(psw) | calc_flags::z(psw),
-        4 => calc_flags::s(psw),
-        5 => calc_flags::p(psw),
-        6 => calc_flags::s(psw) != calc_flags::v(psw),
-        _ => (calc_flags::s(psw) != calc_flags::v(psw)) | calc_flags::z(psw),
+        0 => flag::<V>(psw),
+        1 => flag::<CY>(psw),
+        2 => flag::<Z>(psw),
+        3 => flag::<CY>(psw) | flag::<Z>(psw),
+        4 => flag::<S>(psw),
+        5 => flag::<P>(psw),
+        6 => flag::<S>(psw) != flag::<V>(psw),
+        _ => (flag::<S>(psw) != flag::<V>(psw)) | flag::<Z>(psw),
     }
 }
 
@@ -62,7 +63,7 @@ fn dbnz_while(file: &mut [u16; 14], wanted: bool, disp: u16)
     ensures { OnFile Unit (tree.dbnz_while wanted disp) file.old tt file.new }
 {
     let b = count_down(file);
-    let z = calc_flags::z(file[PSW]);
+    let z = flag::<Z>(file[PSW]);
     jump_if(file, b & (z == wanted), disp);
 }
 
@@ -80,6 +81,7 @@ fn bcwz(file: &mut [u16; 14], disp: u16)
     jump_if(file, b, disp);
 }
 
+#[tactic(auto, unfolding(sheet::specs::Branch::conditional))]
 pub fn conditional(file: &mut [u16; 14], i: Conditional)
     ensures { OnFile Unit (tree.conditional i) file.old tt file.new }
 {

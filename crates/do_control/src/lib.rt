@@ -3,6 +3,7 @@
 
 ghost use Rattle.do_control.specs.Controls.{Controls};
 
+use calc_flags::{CY, flag};
 use mach_registers::PSW;
 use sheet::{Control, Marks};
 
@@ -30,7 +31,7 @@ pub fn control(file: &mut [u16; 14], m: Marks, i: Control) -> Marks
             m
         }
         Control::NotCy => {
-            let c = calc_flags::cy(file[PSW]);
+            let c = flag::<CY>(file[PSW]);
             file[PSW] = calc_psw::with_cy(!c, file[PSW]);
             m
         }

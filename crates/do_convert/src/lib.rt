@@ -55,6 +55,7 @@ fn cvtwl(file: &mut [u16; 14])
     file[DW] = calc_convert::cvtwl(file[AW]);
 }
 
+#[tactic(auto, unfolding(sheet::specs::Convert::convert))]
 pub fn convert(file: &mut [u16; 14], i: Convert)
     ensures { OnFile Unit (sheet.convert i) file.old tt file.new }
 {

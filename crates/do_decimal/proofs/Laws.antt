@@ -98,7 +98,7 @@ module _ (way : Way) (storing : Storing) (seg n : ℕ) (f ram rom : List ℕ) wh
   turns_none k e = rw e.is (record { most = lit≤ tt; fair = lit≤ tt; at = λ s tape log. goes_none Chain (link way storing seg) n begun (world (with_file s f) ram rom tape log) })
 
   pub turns_more : (i : ℕ) (c c' : Chain) (ram' ram'' : List ℕ) (k m r : Bus) → Turns way storing seg n f ram rom i c ram' k → i < n
-      → OnMemory Chain (link way storing seg i c) f ram' rom c' f ram'' m 3 → Joins k m r → Turns way storing seg n f ram rom (i + 1) (record { cy = c'.cy; zero = c'.zero }) ram'' r
+      → OnMemory Chain (link way storing seg i c) f ram' rom c' f ram'' m 3 → Joins k m r → Turns way storing seg n f ram rom (i + 1) c' ram'' r
   turns_more i c c' ram' ram'' k m r t l h j =
       rw j.is
       (record {

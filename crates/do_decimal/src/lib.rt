@@ -7,6 +7,7 @@ ghost use Rattle.sheet.specs.Decimal as sheet;
 ghost use Rattle.mach_tally.specs.Lent.{Does, Fills};
 ghost use Rattle.do_decimal.specs.Both.{Both};
 
+use calc_flags::Flags;
 use mach_registers::{CW, DS1, IX, IY, PSW};
 use sheet::{Bus, Chain, Decimal, Place, Storing, Way};
 
@@ -47,10 +48,7 @@ fn read_both(file: &[u16; 14], ram: &[u8], rom: &[u8], seg: u8, i: u16) -> Bytes
 fn stores(storing: Storing) -> bool
     ensures { result ≡ sheet.stores storing }
 {
-    match storing {
-        Storing::Stored => true,
-        Storing::NotStored => false,
-    }
+    matches!(storing, Storing::Stored)
 }
 
 // One byte of the result.
@@ -102,29 +100,29 @@ fn chained(
     requires { last ≤ 128 }
     ensures { Fills Chain (sheet.chained way storing seg last) file ram rom result.chain result.bus 384 }
 {
-    let mut i: u16 = 0;
-    let mut cy = false;
-    let mut zero = true;
-    let mut t = mach_tally::none();
-    while i < last {
-        let l = link(file, ram, rom, way, storing, seg, i, Chain { cy, zero });
-        cy = l.chain.cy;
-        zero = l.chain.zero;
-        t = mach_tally::both(t, l.bus);
-        i = i + 1;
+    let mut chain = Chain {
+        cy: false,
+        zero: true,
+    };
+    let mut bus = mach_tally::none();
+    for i in 0..last {
+        let l = link(file, ram, rom, way, storing, seg, i, chain);
+        chain = l.chain;
+        bus = mach_tally::both(bus, l.bus);
     }
-    Linked {
-        chain: Chain { cy, zero },
-        bus: t,
-    }
+    Linked { chain, bus }
 }
 
 // PSW after a string: CY by its last byte, Z by all of them.
 fn string_psw(c: Chain, psw: u16) -> u16
     ensures { result ≡ settled keeps (column (columns unknown (becomes c.cy) unknown unknown unknown (becomes c.zero))) psw }
 {
-    let f = calc_flags::unpack(psw);
-    calc_psw::affect(f.ac, c.cy, f.v, f.p, f.s, c.zero, psw)
+    let f = Flags {
+        cy: c.cy,
+        z: c.zero,
+        ..Flags::from(psw)
+    };
+    calc_psw::affect(f, psw)
 }
 
 // ADD4S, SUB4S or CMP4S.

@@ -25,12 +25,11 @@ fn copy_pointers(file: &mut [u16; 14], ram: &mut [u8], rom: &[u8], n: u8) -> Bus
     requires { n ≤ 254 }
     ensures { Does (loop tree.frame n 0 tt) file ram rom result 1016 }
 {
-    let mut i: u8 = 0;
     let mut t = mach_tally::none();
-    while i < n {
+    // the proof counts by i
+    for i in 0..n {
         let b = copy_pointer(file, ram, rom);
         t = mach_tally::both(t, b);
-        i = i + 1;
     }
     t
 }

@@ -7,6 +7,7 @@ ghost use Rattle.sheet.specs.Width.{signed_of};
 ghost use Rattle.sheet.specs.Interrupts as tree;
 ghost use Rattle.mach_tally.specs.Lent.{Gives};
 
+use calc_flags::{V, flag};
 use mach_registers::PSW;
 use mach_stack::Worked;
 use sheet::{Address, Bus, Interrupt};
@@ -36,15 +37,16 @@ fn trap_if(file: &mut [u16; 14], ram: &mut [u8], rom: &[u8], b: bool, v: u8) -> 
 fn brkv(file: &mut [u16; 14], ram: &mut [u8], rom: &[u8]) -> Worked
     ensures { Gives Bool tree.brkv file ram rom result.trapped result.bus 8 }
 {
-    let b = calc_flags::v(file[PSW]);
+    let b = flag::<V>(file[PSW]);
     trap_if(file, ram, rom, b, 4)
 }
 
-// Signed numbers lie in the order of their bits with the sign's bit turned.
+// As signed numbers.
+#[tactic(auto, using(std::proofs::lemmas::Int::ints), unfolding(sheet::specs::Width::signed_of))]
 fn less(a: u16, b: u16) -> bool
     ensures { result ≡ lt_z (signed_of 32768 a) (signed_of 32768 b) }
 {
-    calc_word::plus16(a, 32768) < calc_word::plus16(b, 32768)
+    a.cast_signed() < b.cast_signed()
 }
 
 fn outside(v: u16, low: u16, high: u16) -> bool
@@ -61,8 +63,8 @@ fn chkind(file: &mut [u16; 14], ram: &mut [u8], rom: &[u8], reg: u8, from: Addre
     let b = outside(v, p.low, p.high);
     let t = trap_if(file, ram, rom, b, 5);
     Worked {
-        trapped: t.trapped,
         bus: mach_tally::both(p.bus, t.bus),
+        ..t
     }
 }
 

@@ -6,6 +6,7 @@ ghost use Rattle.sheet.specs.Mode as tree;
 ghost use Rattle.mach_tally.specs.Lent.{Takes};
 ghost use Rattle.do_mode.specs.Marked.{TakesBack, Leaves};
 
+use calc_flags::{MD, flag};
 use mach_memory::Loaded;
 use mach_registers::{PC, PS, PSW};
 use sheet::cards::CardMode;
@@ -24,7 +25,7 @@ fn take_back(file: &mut [u16; 14], m: Marks, x: u16)
 {
     file[PSW] = calc_psw::restore(x, file[PSW]);
     if m.writable {
-        let md = calc_flags::native(x);
+        let md = flag::<MD>(x);
         file[PSW] = calc_psw::in_mode(md, file[PSW]);
     }
 }

@@ -1,6 +1,6 @@
 -- What each instruction comes to, from what its parts come to.
 use Prim.Native.Nat.{ℕ, ◌+◌, ◌*◌, ◌/◌, ◌%◌, ◌<◌}
-use mathlib.Core.Path.{◌≡◌, refl}
+use mathlib.Core.Path.{◌≡◌, refl, ap}
 use mathlib.Core.Bool.{Bool, true, false}
 use mathlib.Core.List.{List}
 use native.Mathlib.Omega.{arith}
@@ -13,8 +13,8 @@ use lib.Signed.{quot_z, rem_z}
 use Rattle.sheet.specs.declared.Bus.{Bus}
 use Rattle.sheet.specs.declared.Place.{Place}
 use Rattle.sheet.specs.declared.Product.{Product}
-use Rattle.sheet.specs.declared.Divided.{Divided}
-use Rattle.sheet.specs.declared.Divided.TheVariants.{Quotient, Trap}
+use Rattle.std.specs.Prelude.{Option, None}
+use Rattle.sheet.specs.declared.Quotient.{Quotient}
 use Rattle.sheet.specs.declared.Multiply.{Multiply}
 use Rattle.sheet.specs.Width.{half_of, wrap_of, signed_of, bits32}
 use Rattle.sheet.specs.Psw.{flag_of, native_of, pack, keeps, column, settled}
@@ -23,12 +23,12 @@ use Rattle.sheet.specs.Act.{Act, ◌>>=◌, registers}
 use Rattle.sheet.specs.Operand.{reg_value, set_reg, value_at}
 use Rattle.sheet.specs.Handler.{nothing, ◌⊕◌}
 use Rattle.sheet.specs.Traps.{trap, untrapped}
-use Rattle.sheet.specs.Multiply.{all_unknown, bits_of, divided, dividend, mul_by, multiplied, product_column, quoted, set_product, set_quotient, signed_product, signed_quotient, span_of, stands, unsigned_quotient, multiply}
+use Rattle.sheet.specs.Multiply.{all_unknown, bits_of, divided, dividend, mul_by, multiplied, product_column, quoted, set_product, set_quotient, signed_product, signed_quotient, span_of, stands, unsigned_quotient, multiply, gives}
 use Rattle.sheet.specs.Contract.{OnFile, OnMemory}
 use Rattle.sheet.proofs.Lifted.{file_seq, file_pure, file_registers, file_set, file_flags, memory_seq, memory_free, memory_last, memory_at_most, on_memory}
 use Rattle.mach_registers.proofs.Laws.{file_reg}
 use Rattle.calc_word.proofs.WidthLaws.{wrap_lt}
-use Rattle.calc_divide.proofs.QuotientLaws.{unsigned_quotient_exact}
+use Rattle.calc_divide.proofs.QuotientLaws.{quotient_in, remainder_in, unsigned_quotient_exact}
 use Rattle.do_multiply.specs.Within.{Held, Within}
 
 -- ---- products
@@ -91,43 +91,43 @@ module _ (w : Bool) (q m : ℕ) (e : w ≡ false) (h : Held w q m) where
   pub sum_fits : Fits w16 (m * 256 + q)
   sum_fits = record { fits = omega (arith, remainder_byte, quotient_byte) }
 
-pub both_held : (w : Bool) (d : Divided) (q m : ℕ) → Within w d → d ≡ Quotient q m → Held w q m
+pub both_held : (w : Bool) (d : Option Quotient) (q m : ℕ) → Within w d → d ≡ gives q m → Held w q m
 both_held w d q m h e = h.both q m e
 
-no_quotient : (q m : ℕ) → Trap ≡ Quotient q m → ⊥
+no_quotient : (q m : ℕ) → None ≡ gives q m → ⊥
 no_quotient q m e =
     let no : ◌≡◌ {A = ℕ} 0 1 = cc in
     omega arith
 
-quoted_held : (w : Bool) (n d : ℤ) (q m : ℕ) → quoted w n d ≡ Quotient q m → Held w q m
+quoted_held : (w : Bool) (n d : ℤ) (q m : ℕ) → quoted w n d ≡ gives q m → Held w q m
 unfolding quoted bits_of
 quoted_held w n d q m = go (stands w (quot_z n d)) refl
   where
-    go : (t : Bool) → stands w (quot_z n d) ≡ t → quoted w n d ≡ Quotient q m → Held w q m
+    go : (t : Bool) → stands w (quot_z n d) ≡ t → quoted w n d ≡ gives q m → Held w q m
     go true e p =
         let o = rw e at p in
-        let eq : wrap_of w (bits32 (quot_z n d)) ≡ q = cc in
-        let em : wrap_of w (bits32 (rem_z n d)) ≡ m = cc in
+        let eq : wrap_of w (bits32 (quot_z n d)) ≡ q = ap quotient_in o in
+        let em : wrap_of w (bits32 (rem_z n d)) ≡ m = ap remainder_in o in
         record { quotient = rw (← eq) (wrap_lt w (bits32 (quot_z n d))); remainder = rw (← em) (wrap_lt w (bits32 (rem_z n d))) }
     go false e p = absurd (no_quotient q m (rw e at p))
 
-signed_held : (w : Bool) (a b q m : ℕ) → signed_quotient w a b ≡ Quotient q m → Held w q m
+signed_held : (w : Bool) (a b q m : ℕ) → signed_quotient w a b ≡ gives q m → Held w q m
 unfolding signed_quotient
 signed_held w a b q m = go (eqb (wrap_of w b) 0) refl
   where
-    go : (t : Bool) → eqb (wrap_of w b) 0 ≡ t → signed_quotient w a b ≡ Quotient q m → Held w q m
+    go : (t : Bool) → eqb (wrap_of w b) 0 ≡ t → signed_quotient w a b ≡ gives q m → Held w q m
     go true e p = absurd (no_quotient q m (rw e at p))
     go false e p = quoted_held w (signed_of (span_of w) a) (signed_of (half_of w) (wrap_of w b)) q m (rw e at p)
 
-unsigned_held : (w : Bool) (a b q m : ℕ) → unsigned_quotient w a b ≡ Quotient q m → Held w q m
+unsigned_held : (w : Bool) (a b q m : ℕ) → unsigned_quotient w a b ≡ gives q m → Held w q m
 unsigned_held w a b q m p =
     let x = unsigned_quotient_exact w a b q m p in
     record { quotient = x.2; remainder = omega (arith, x.1, wrap_lt w b) }
 
-pub unsigned_within : (w : Bool) (a b : ℕ) (d : Divided) → d ≡ unsigned_quotient w a b → Within w d
+pub unsigned_within : (w : Bool) (a b : ℕ) (d : Option Quotient) → d ≡ unsigned_quotient w a b → Within w d
 unsigned_within w a b d e = rw e (record { both = unsigned_held w a b })
 
-pub signed_within : (w : Bool) (a b : ℕ) (d : Divided) → d ≡ signed_quotient w a b → Within w d
+pub signed_within : (w : Bool) (a b : ℕ) (d : Option Quotient) → d ≡ signed_quotient w a b → Within w d
 signed_within w a b d e = rw e (record { both = signed_held w a b })
 
 -- undefined flags are kept, and the fixed bits put right
@@ -135,16 +135,16 @@ all_kept : (x psw : ℕ) → x ≡ pack (native_of psw) (flag_of psw) → x ≡ 
 unfolding settled
 all_kept x psw e = e
 
-module _ (f g ram rom : List ℕ) (w : Bool) (d : Divided) (x : ℕ) (e : x ≡ pack (native_of (get_or g PSW 0)) (flag_of (get_or g PSW 0))) where
-  pub quotient_is : (q m : ℕ) → d ≡ Quotient q m → OnFile Unit (set_quotient w q m) f tt g → OnMemory Bool (divided w d) f ram rom false (set g PSW x) ram nothing 8
+module _ (f g ram rom : List ℕ) (w : Bool) (d : Option Quotient) (x : ℕ) (e : x ≡ pack (native_of (get_or g PSW 0)) (flag_of (get_or g PSW 0))) where
+  pub quotient_is : (q m : ℕ) → d ≡ gives q m → OnFile Unit (set_quotient w q m) f tt g → OnMemory Bool (divided w d) f ram rom false (set g PSW x) ram nothing 8
   unfolding divided
   quotient_is q m z h = rw z (on_memory ram rom 8 (file_seq _ h (file_seq _ (file_flags (column all_unknown) (all_kept x (get_or g PSW 0) e)) file_pure)))
 
-  pub trap_is : (ram' : List ℕ) (n : Bus) → d ≡ Trap → OnMemory Unit (trap 0) f ram rom tt g ram' n 8 → OnMemory Bool (divided w d) f ram rom true (set g PSW x) ram' n 8
+  pub trap_is : (ram' : List ℕ) (n : Bus) → d ≡ None → OnMemory Unit (trap 0) f ram rom tt g ram' n 8 → OnMemory Bool (divided w d) f ram rom true (set g PSW x) ram' n 8
   unfolding divided
   trap_is ram' n z h = rw z (memory_last _ h (file_seq _ (file_flags (column all_unknown) (all_kept x (get_or g PSW 0) e)) file_pure))
 
-pub quotient_by : (quotient : Bool → ℕ → ℕ → Divided) (f g ram ram' rom : List ℕ) (w : Bool) (by : Place) (b a : ℕ) (d : Divided) (t : Bool) (n m : Bus) → OnMemory ℕ (value_at w by) f ram rom b f ram n 2
+pub quotient_by : (quotient : Bool → ℕ → ℕ → Option Quotient) (f g ram ram' rom : List ℕ) (w : Bool) (by : Place) (b a : ℕ) (d : Option Quotient) (t : Bool) (n m : Bus) → OnMemory ℕ (value_at w by) f ram rom b f ram n 2
     → a ≡ dividend w (file_of f) → d ≡ quotient w a b → OnMemory Bool (divided w d) f ram rom t g ram' m 8
     → OnMemory Bool (value_at w by >>= (λ y. registers >>= (λ r. divided w (quotient w (dividend w r) y)))) f ram rom t g ram' (n ⊕ m) 10
 quotient_by quotient f g ram ram' rom w by b a d t n m h e q k = memory_seq _ {t = 2} {u = 8} h (memory_free _ file_registers (rw (← e, ← q) k))

@@ -1,4 +1,4 @@
-// MULU, MUL, DIVU, DIV.
+// MULU, MUL, DIVU, DIV. Unsigned and signed differ in the function that calculates, which as a parameter would bring its contract into theirs.
 #![tactic(auto)]
 
 ghost use Rattle.std.specs.Prelude.{◌≡◌, Bool};
@@ -10,7 +10,7 @@ ghost use Rattle.do_multiply.specs.Within.{Held, Within};
 
 use mach_registers::{AW, DW, PSW};
 use mach_stack::Worked;
-use sheet::{Bus, Divided, Multiply, Place, Product};
+use sheet::{Bus, Multiply, Place, Product, Quotient};
 
 // A product of bytes goes to AW, one of words to DW and AW.
 fn set_product(file: &mut [u16; 14], word: bool, x: u32)
@@ -64,44 +64,47 @@ fn mul_by(file: &mut [u16; 14], ram: &[u8], rom: &[u8], reg: u8, from: Place, by
 fn dividend(word: bool, file: &[u16; 14]) -> u32
     ensures { result ≡ sheet.dividend word (file_of file.now) }
 {
-    let low = calc_word::word(file[AW]) as u32;
+    let low = file[AW] as u32;
     if word {
-        return calc_word::word(file[DW]) as u32 * 65536 + low;
+        return file[DW] as u32 * 65536 + low;
     }
     low
 }
 
 // AL and AH for bytes, AW and DW for words.
-fn set_quotient(file: &mut [u16; 14], word: bool, quotient: u16, remainder: u16)
-    requires { Held word quotient remainder }
-    ensures { OnFile Unit (sheet.set_quotient word quotient remainder) file.old tt file.new }
+fn set_quotient(file: &mut [u16; 14], word: bool, q: Quotient)
+    requires { Held word q.quotient q.remainder }
+    ensures { OnFile Unit (sheet.set_quotient word q.quotient q.remainder) file.old tt file.new }
 {
     if word {
-        file[AW] = quotient;
-        file[DW] = remainder;
+        file[AW] = q.quotient;
+        file[DW] = q.remainder;
     } else {
-        file[AW] = remainder * 256 + quotient;
+        file[AW] = q.remainder * 256 + q.quotient;
     }
 }
 
 // The quotient and the remainder in their registers, or the trap to vector 0; the flags are undefined after it.
-fn divided(file: &mut [u16; 14], ram: &mut [u8], rom: &[u8], word: bool, d: Divided) -> Worked
+fn divided(
+    file: &mut [u16; 14],
+    ram: &mut [u8],
+    rom: &[u8],
+    word: bool,
+    d: Option<Quotient>,
+) -> Worked
     requires { Within word d }
     ensures { Gives Bool (sheet.divided word d) file ram rom result.trapped result.bus 8 }
 {
     match d {
-        Divided::Quotient {
-            quotient,
-            remainder,
-        } => {
-            set_quotient(file, word, quotient, remainder);
+        Some(q) => {
+            set_quotient(file, word, q);
             file[PSW] = calc_psw::restore(file[PSW], file[PSW]);
             Worked {
                 trapped: false,
                 bus: mach_tally::none(),
             }
         }
-        Divided::Trap => {
+        None => {
             let b = mach_stack::trap(file, ram, rom, 0);
             file[PSW] = calc_psw::restore(file[PSW], file[PSW]);
             Worked {
@@ -120,8 +123,8 @@ fn divu(file: &mut [u16; 14], ram: &mut [u8], rom: &[u8], word: bool, by: Place)
     let d = calc_divide::unsigned_quotient(word, a, b.value);
     let w = divided(file, ram, rom, word, d);
     Worked {
-        trapped: w.trapped,
         bus: mach_tally::both(b.bus, w.bus),
+        ..w
     }
 }
 
@@ -133,8 +136,8 @@ fn div(file: &mut [u16; 14], ram: &mut [u8], rom: &[u8], word: bool, by: Place) 
     let d = calc_divide::signed_quotient(word, a, b.value);
     let w = divided(file, ram, rom, word, d);
     Worked {
-        trapped: w.trapped,
         bus: mach_tally::both(b.bus, w.bus),
+        ..w
     }
 }
 
@@ -150,11 +153,7 @@ pub fn multiply(file: &mut [u16; 14], ram: &mut [u8], rom: &[u8], i: Multiply) -
             trapped: false,
             bus: mul(file, ram, rom, word, by),
         },
-        Multiply::MulByte { reg, from, by } => Worked {
-            trapped: false,
-            bus: mul_by(file, ram, rom, reg, from, by),
-        },
-        Multiply::MulWord { reg, from, by } => Worked {
+        Multiply::MulByte { reg, from, by } | Multiply::MulWord { reg, from, by } => Worked {
             trapped: false,
             bus: mul_by(file, ram, rom, reg, from, by),
         },

@@ -9,7 +9,7 @@ ghost use Rattle.mach_ports.specs.Lent.{UsesPorts, UsesPortsAlone};
 
 use mach_ports::Ported;
 use mach_registers::DW;
-use sheet::{Io, Port, Progress};
+use sheet::{Io, Port, Progress, Refusal};
 
 fn port_number(file: &[u16; 14], port: Port) -> u16
     ensures { OnFile ℕ (tree.port_number port) file.now result file.now }
@@ -29,21 +29,16 @@ fn input(
     q: Progress,
     word: bool,
     port: Port,
-) -> Ported
+) -> Result<Ported, Refusal>
     ensures { UsesPorts (tree.ports (io.In word port)) file ram rom tape log q result 2 }
 {
     let n = port_number(file, port);
-    let t = mach_ports::take(word, tape, log, q, n);
-    let p = t.progress;
-    let b = t.bus;
-    if t.number == 0 {
-        mach_registers::set_reg(word, file, 0, t.value);
-    }
-    Ported {
-        number: t.number,
-        progress: p,
-        bus: b,
-    }
+    let t = mach_ports::take(word, tape, log, q, n)?;
+    mach_registers::set_reg(word, file, 0, t.value);
+    Ok(Ported {
+        progress: t.progress,
+        bus: t.bus,
+    })
 }
 
 fn output(
@@ -55,7 +50,7 @@ fn output(
     q: Progress,
     word: bool,
     port: Port,
-) -> Ported
+) -> Result<Ported, Refusal>
     ensures { UsesPortsAlone (tree.ports (io.Out word port)) file ram rom tape log q result 2 }
 {
     let n = port_number(file, port);
@@ -71,7 +66,7 @@ pub fn access(
     log: &mut [u8],
     q: Progress,
     i: Io,
-) -> Ported
+) -> Result<Ported, Refusal>
     ensures { UsesPorts (tree.ports i) file ram rom tape log q result 2 }
 {
     match i {

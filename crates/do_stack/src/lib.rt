@@ -47,7 +47,7 @@ fn push_segment(file: &mut [u16; 14], ram: &mut [u8], rom: &[u8], seg: u8) -> Bu
 fn push_psw(file: &mut [u16; 14], ram: &mut [u8], rom: &[u8]) -> Bus
     ensures { Does push_psw file ram rom result 2 }
 {
-    let x = calc_word::word(file[PSW]);
+    let x = file[PSW];
     mach_stack::push(file, ram, rom, x)
 }
 
@@ -73,8 +73,9 @@ pub fn stack(file: &mut [u16; 14], ram: &mut [u8], rom: &[u8], i: Stack) -> Bus
 {
     match i {
         Stack::Push { from } => push_place(file, ram, rom, from),
-        Stack::PushByte { value } => mach_stack::push(file, ram, rom, value),
-        Stack::PushWord { value } => mach_stack::push(file, ram, rom, value),
+        Stack::PushByte { value } | Stack::PushWord { value } => {
+            mach_stack::push(file, ram, rom, value)
+        }
         Stack::PushSegment { seg } => push_segment(file, ram, rom, seg),
         Stack::PushPsw => push_psw(file, ram, rom),
         Stack::PushR => do_push_r::push_r(file, ram, rom),

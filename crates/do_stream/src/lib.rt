@@ -9,8 +9,8 @@ ghost use Rattle.do_stream.specs.Streams.{primitive_of};
 
 use mach_element::Due;
 use mach_ports::Ported;
-use mach_registers::{CW, DW};
-use sheet::{Primitive, Progress, Repeat};
+use mach_registers::{CW, DW, IX, IY};
+use sheet::{Primitive, Progress, Refusal, Repeat};
 
 fn inm(
     file: &mut [u16; 14],
@@ -21,26 +21,16 @@ fn inm(
     q: Progress,
     word: bool,
     seg: u8,
-) -> Ported
+) -> Result<Ported, Refusal>
     ensures { UsesPortsAndRam (tree.primitive primitives.Inm word seg) file ram rom tape log q result 4 }
 {
-    let t = mach_ports::take(word, tape, log, q, file[DW]);
-    let p = t.progress;
-    let b = t.bus;
-    if t.number == 0 {
-        let c = mach_element::set_target(word, file, ram, rom, t.value);
-        mach_element::step_iy(word, file);
-        return Ported {
-            number: 0,
-            progress: p,
-            bus: mach_tally::both(b, c),
-        };
-    }
-    Ported {
-        number: t.number,
-        progress: p,
-        bus: b,
-    }
+    let t = mach_ports::take(word, tape, log, q, file[DW])?;
+    let bus = mach_element::set_target(word, file, ram, rom, t.value);
+    mach_element::step_index(word, file, IY);
+    Ok(Ported {
+        progress: t.progress,
+        bus: mach_tally::both(t.bus, bus),
+    })
 }
 
 fn outm(
@@ -52,26 +42,16 @@ fn outm(
     q: Progress,
     word: bool,
     seg: u8,
-) -> Ported
+) -> Result<Ported, Refusal>
     ensures { UsesPorts (tree.primitive primitives.Outm word seg) file ram rom tape log q result 4 }
 {
     let v = mach_element::source_element(word, file, ram, rom, seg);
-    let g = mach_ports::give(word, log, q, file[DW], v.value);
-    let p = g.progress;
-    let b = g.bus;
-    if g.number == 0 {
-        mach_element::step_ix(word, file);
-        return Ported {
-            number: 0,
-            progress: p,
-            bus: mach_tally::both(v.bus, b),
-        };
-    }
-    Ported {
-        number: g.number,
-        progress: p,
-        bus: b,
-    }
+    let g = mach_ports::give(word, log, q, file[DW], v.value)?;
+    mach_element::step_index(word, file, IX);
+    Ok(Ported {
+        bus: mach_tally::both(v.bus, g.bus),
+        ..g
+    })
 }
 
 // The primitives that use a port.
@@ -81,12 +61,16 @@ pub enum Streaming {
     Outm,
 }
 
-fn named(kind: Streaming) -> Primitive
-    ensures { result ≡ primitive_of kind }
-{
-    match kind {
-        Streaming::Inm => Primitive::Inm,
-        Streaming::Outm => Primitive::Outm,
+impl From<Streaming> for Primitive {
+    ghost from_gives = { λ k p. p ≡ primitive_of k };
+
+    fn from(kind: Streaming) -> Primitive
+        ensures { result ≡ primitive_of kind }
+    {
+        match kind {
+            Streaming::Inm => Primitive::Inm,
+            Streaming::Outm => Primitive::Outm,
+        }
     }
 }
 
@@ -100,7 +84,7 @@ fn primitive(
     kind: Streaming,
     word: bool,
     seg: u8,
-) -> Ported
+) -> Result<Ported, Refusal>
     ensures { UsesPortsAndRam (tree.primitive (primitive_of kind) word seg) file ram rom tape log q result 4 }
 {
     match kind {
@@ -121,13 +105,12 @@ fn element(
     seg: u8,
     repeat: Repeat,
     start: u16,
-) -> Ported
+) -> Result<Ported, Refusal>
     ensures { UsesPortsAndRam (tree.element (primitive_of kind) word seg repeat start) file ram rom tape log q result 4 }
 {
     let r = primitive(file, ram, rom, tape, log, q, kind, word, seg);
-    let k = named(kind);
-    if r.number == 0 {
-        mach_element::finish_element(file, k, repeat, start);
+    if r.is_ok() {
+        mach_element::finish_element(file, Primitive::from(kind), repeat, start);
     }
     r
 }
@@ -145,16 +128,14 @@ pub fn stream(
     seg: u8,
     repeat: Repeat,
     start: u16,
-) -> Ported
+) -> Result<Ported, Refusal>
     ensures { UsesPortsAndRam (tree.block (primitive_of kind) word seg repeat start) file ram rom tape log q result 4 }
 {
-    let due = mach_element::what_is_due(file[CW], repeat);
-    match due {
-        Due::Nothing => Ported {
-            number: 0,
+    match mach_element::what_is_due(file[CW], repeat) {
+        Due::Nothing => Ok(Ported {
             progress: q,
             bus: mach_tally::none(),
-        },
+        }),
         Due::Single => primitive(file, ram, rom, tape, log, q, kind, word, seg),
         Due::Element => element(file, ram, rom, tape, log, q, kind, word, seg, repeat, start),
     }

@@ -34,12 +34,7 @@ use Rattle.mach_tally.specs.Sums.{Free}
 use Rattle.mach_tally.proofs.Bounds.{within_free, within_memory, within_more}
 use Rattle.mach_ports.specs.Accesses.{OnPorts}
 use Rattle.do_control.specs.Controls as do-control
-use Rattle.do_mode.specs.declared.Moded.{Moded}
-use Rattle.do_8080.specs.declared.Carded.{Carded}
 use Rattle.do_8080.specs.Lent.{OnAll}
-use Rattle.mach_ports.specs.declared.Ported.{Ported}
-use Rattle.mach_stack.specs.declared.Worked.{Worked}
-use Rattle.engine.specs.declared.execute.Performed.{Performed}
 use Rattle.engine.specs.Performs.{Performs}
 
 -- ---- any tree
@@ -149,39 +144,23 @@ module _ (i : Instr) (start : ℕ) where
 
 -- ---- what the code hands on
 
-abbrev pub Comes : Act Bool → (f ram rom tape log : List ℕ) → Marks → Progress → Performed → (g ram' log' : List ℕ) → Type 0
-Comes o f ram rom tape log h q x g ram' log' = Performs o f ram rom tape log h q x.number x.trapped x.marks g ram' log' x.progress x.bus
+module _ (o : Act Bool) (f g ram ram' rom tape log : List ℕ) (h : Marks) (q : Progress) where
+  pub at_quiet : (p : Act Unit) (n : Bus) (k : ℕ) → o ≡ untrapped p → k ≤ 1020 → OnMemory Unit p f ram rom tt g ram' n k → Performs o f ram rom tape log h q 0 false h g ram' log q n
+  at_quiet p n k e m j = rw e (quiet_is p f g ram ram' rom tape log h q n k m j)
 
-abbrev pub handed : ℕ → Bool → Marks → Progress → Bus → Performed
-handed number trapped h q n = record { number = number; trapped = trapped; marks = h; progress = q; bus = n }
+  pub at_told : (p : Act Bool) (t : Bool) (n : Bus) (k : ℕ) → o ≡ p → k ≤ 1020 → OnMemory Bool p f ram rom t g ram' n k → Performs o f ram rom tape log h q 0 t h g ram' log q n
+  at_told p t n k e m j = rw e (worked_is p f g ram ram' rom tape log h q t n k m j)
 
-module _ (o : Act Bool) (f g ram ram' rom tape log : List ℕ) (h : Marks) (q : Progress) (x : Performed) where
-  pub at_quiet : (p : Act Unit) (n : Bus) (k : ℕ) → o ≡ untrapped p → k ≤ 1020 → OnMemory Unit p f ram rom tt g ram' n k → x ≡ handed 0 false h q n
-      → Comes o f ram rom tape log h q x g ram' log
-  at_quiet p n k e m j u = rw (e, u) (quiet_is p f g ram ram' rom tape log h q n k m j)
+  pub at_through : (p : Act Unit) (number : ℕ) (log' : List ℕ) (q' : Progress) (n : Bus) (k : ℕ) → o ≡ untrapped p → k ≤ 1020 → OnPorts p f ram rom tape log q number g ram' log' q' n k
+      → Performs o f ram rom tape log h q number false h g ram' log' q' n
+  at_through p number log' q' n k e m j = rw e (ported_is p f g ram ram' rom tape log h q log' q' number n k m j)
 
-  pub at_told : (p : Act Bool) (y : Worked) (k : ℕ) → o ≡ p → k ≤ 1020 → OnMemory Bool p f ram rom y.trapped g ram' y.bus k → x ≡ handed 0 y.trapped h q y.bus
-      → Comes o f ram rom tape log h q x g ram' log
-  at_told p y k e m j u = rw (e, u) (worked_is p f g ram ram' rom tape log h q y.trapped y.bus k m j)
+  pub at_control : (t : Control) (h' : Marks) (n : Bus) → o ≡ untrapped (control t) → do-control.Controls t f h g h' → Free n → Performs o f ram rom tape log h q 0 false h' g ram log q n
+  at_control t h' n e k u = rw e (control_is t f g ram rom tape log h q h' n k u)
 
-  pub at_through : (p : Act Unit) (r : Ported) (log' : List ℕ) (k : ℕ) → o ≡ untrapped p → k ≤ 1020
-      → OnPorts p f ram rom tape log q r.number g ram' log' r.progress r.bus k → x ≡ handed r.number false h r.progress r.bus
-      → Comes o f ram rom tape log h q x g ram' log'
-  at_through p r log' k e m j u = rw (e, u) (ported_is p f g ram ram' rom tape log h q log' r.progress r.number r.bus k m j)
+  pub at_marked : (p : Act Unit) (h' : Marks) (n : Bus) (k : ℕ) → o ≡ untrapped p → k ≤ 1020 → OnMarks Unit p f ram rom h tt g ram' h' n k → Performs o f ram rom tape log h q 0 false h' g ram' log q n
+  at_marked p h' n k e m j = rw e (marked_is p f g ram ram' rom tape log h h' q n k m j)
 
-  pub at_marked : (p : Act Unit) (r : Moded) (k : ℕ) → o ≡ untrapped p → k ≤ 1020 → OnMarks Unit p f ram rom h tt g ram' r.marks r.bus k → x ≡ handed 0 false r.marks q r.bus
-      → Comes o f ram rom tape log h q x g ram' log
-  at_marked p r k e m j u = rw (e, u) (marked_is p f g ram ram' rom tape log h r.marks q r.bus k m j)
-
-module _ (f g ram ram' rom tape log log' : List ℕ) (h : Marks) (q : Progress) (x : Performed) where
-  pub at_carded : (p : Act Unit) (r : Carded) (k : ℕ) → k ≤ 1020 → OnAll p f ram rom tape log h q r.number g ram' log' r.marks r.progress r.bus k
-      → x ≡ handed r.number false r.marks r.progress r.bus → Comes (untrapped p) f ram rom tape log h q x g ram' log'
-  at_carded p r k m j u = rw u (carded_is p f g ram ram' rom tape log log' h r.marks q r.progress r.number r.bus k m j)
-
-  pub at_card : (i : Instr) (start : ℕ) (t : Card) → i ≡ Cards t → Comes (untrapped (carding t)) f ram rom tape log h q x g ram' log'
-      → Comes (operation i start) f ram rom tape log h q x g ram' log'
-  at_card i start t e j = rw (of_cards i start t e) j
-
-pub at_control : (o : Act Bool) (f g ram rom tape log : List ℕ) (h : Marks) (q : Progress) (t : Control) (h' : Marks) (n : Bus) → o ≡ untrapped (control t) → do-control.Controls t f h g h' → Free n
-    → Performs o f ram rom tape log h q 0 false h' g ram log q n
-at_control o f g ram rom tape log h q t h' n e k u = rw e (control_is t f g ram rom tape log h q h' n k u)
+  pub at_carded : (p : Act Unit) (number : ℕ) (log' : List ℕ) (h' : Marks) (q' : Progress) (n : Bus) (k : ℕ) → o ≡ untrapped p → k ≤ 1020 → OnAll p f ram rom tape log h q number g ram' log' h' q' n k
+      → Performs o f ram rom tape log h q number false h' g ram' log' q' n
+  at_carded p number log' h' q' n k e m j = rw e (carded_is p f g ram ram' rom tape log log' h h' q q' number n k m j)

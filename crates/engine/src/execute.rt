@@ -1,108 +1,16 @@
 // Every instruction's operation.
-ghost use Rattle.std.specs.Prelude.{◌≡◌, false};
-ghost use Rattle.sheet.specs.Traps.{untrapped};
-ghost use Rattle.sheet.specs.Execute.{carding, operation};
+ghost use Rattle.sheet.specs.Execute.{operation};
 ghost use Rattle.engine.specs.ExecuteLent.{PerformsOn};
 
-use do_8080::Carded;
-use do_mode::Moded;
-use mach_ports::Ported;
-use mach_stack::Worked;
-use sheet::cards::Card;
-use sheet::{Bus, Instr, Marks, Progress};
+use sheet::{Bus, Instr, Marks, Progress, Refusal};
 
-// What an instruction came to: the refusal's number, whether it took a trap itself, the marks, the places, the bus.
+// What an instruction came to: whether it took a trap itself, the marks, the places, the bus.
 #[derive(Clone, Copy)]
 pub struct Performed {
-    pub number: u8,
     pub trapped: bool,
     pub marks: Marks,
     pub progress: Progress,
     pub bus: Bus,
-}
-
-// One that says itself whether it took a trap.
-fn told(m: Marks, q: Progress, w: Worked) -> Performed
-    ensures { result ≡ record { number = 0; trapped = w.trapped; marks = m; progress = q; bus = w.bus } }
-{
-    let b = w.bus;
-    Performed {
-        number: 0,
-        trapped: w.trapped,
-        marks: m,
-        progress: q,
-        bus: b,
-    }
-}
-
-// One that takes no trap and uses no port.
-fn quiet(m: Marks, q: Progress, b: Bus) -> Performed
-    ensures { result ≡ record { number = 0; trapped = false; marks = m; progress = q; bus = b } }
-{
-    told(
-        m,
-        q,
-        Worked {
-            trapped: false,
-            bus: b,
-        },
-    )
-}
-
-// One that may have used a port.
-fn through(m: Marks, r: Ported) -> Performed
-    ensures { result ≡ record { number = r.number; trapped = false; marks = m; progress = r.progress; bus = r.bus } }
-{
-    let p = r.progress;
-    let b = r.bus;
-    Performed {
-        number: r.number,
-        trapped: false,
-        marks: m,
-        progress: p,
-        bus: b,
-    }
-}
-
-// One that is lent the marks.
-fn marked(q: Progress, r: Moded) -> Performed
-    ensures { result ≡ record { number = 0; trapped = false; marks = r.marks; progress = q; bus = r.bus } }
-{
-    let m = r.marks;
-    let b = r.bus;
-    quiet(m, q, b)
-}
-
-// One of the 8080 mode.
-fn carded(r: Carded) -> Performed
-    ensures { result ≡ record { number = r.number; trapped = false; marks = r.marks; progress = r.progress; bus = r.bus } }
-{
-    let m = r.marks;
-    let p = r.progress;
-    let b = r.bus;
-    Performed {
-        number: r.number,
-        trapped: false,
-        marks: m,
-        progress: p,
-        bus: b,
-    }
-}
-
-fn card(
-    file: &mut [u16; 14],
-    ram: &mut [u8],
-    rom: &[u8],
-    tape: &[u8],
-    log: &mut [u8],
-    m: Marks,
-    q: Progress,
-    i: Card,
-) -> Performed
-    ensures { PerformsOn (untrapped (carding i)) file ram rom tape log m q result }
-{
-    let r = do_8080::card(file, ram, rom, tape, log, m, q, i);
-    carded(r)
 }
 
 // An instruction that began at the offset `start`; PC stands on the next one.
@@ -112,18 +20,44 @@ pub fn perform(
     rom: &[u8],
     tape: &[u8],
     log: &mut [u8],
-    m: Marks,
-    q: Progress,
+    marks: Marks,
+    progress: Progress,
     i: Instr,
     start: u16,
-) -> Performed
-    ensures { PerformsOn (operation i start) file ram rom tape log m q result }
+) -> Result<Performed, Refusal>
+    ensures { PerformsOn (operation i start) file ram rom tape log marks progress result }
 {
+    let quiet = Performed {
+        trapped: false,
+        marks,
+        progress,
+        bus: mach_tally::none(),
+    };
     match i {
-        Instr::Computes(t) => quiet(m, q, super::plain::compute(file, ram, rom, t)),
-        Instr::Moves(t) => quiet(m, q, super::plain::moves(file, ram, rom, t)),
-        Instr::Multiplies(t) => told(m, q, do_multiply::multiply(file, ram, rom, t)),
-        Instr::Interrupts(t) => told(m, q, do_interrupt::interrupt(file, ram, rom, t)),
+        Instr::Computes(t) => Ok(Performed {
+            bus: super::plain::compute(file, ram, rom, t),
+            ..quiet
+        }),
+        Instr::Moves(t) => Ok(Performed {
+            bus: super::plain::moves(file, ram, rom, t),
+            ..quiet
+        }),
+        Instr::Multiplies(t) => {
+            let w = do_multiply::multiply(file, ram, rom, t);
+            Ok(Performed {
+                trapped: w.trapped,
+                bus: w.bus,
+                ..quiet
+            })
+        }
+        Instr::Interrupts(t) => {
+            let w = do_interrupt::interrupt(file, ram, rom, t);
+            Ok(Performed {
+                trapped: w.trapped,
+                bus: w.bus,
+                ..quiet
+            })
+        }
         Instr::Blocks {
             primitive,
             word,
@@ -131,28 +65,42 @@ pub fn perform(
             repeat,
         } => {
             let r = do_blocks::block(
-                file, ram, rom, tape, log, q, primitive, word, seg, repeat, start,
-            );
-            through(m, r)
+                file, ram, rom, tape, log, progress, primitive, word, seg, repeat, start,
+            )?;
+            Ok(Performed {
+                progress: r.progress,
+                bus: r.bus,
+                ..quiet
+            })
         }
         Instr::Ports(t) => {
-            let r = do_port::access(file, ram, rom, tape, log, q, t);
-            through(m, r)
+            let r = do_port::access(file, ram, rom, tape, log, progress, t)?;
+            Ok(Performed {
+                progress: r.progress,
+                bus: r.bus,
+                ..quiet
+            })
         }
         Instr::Controls(t) => {
-            let h = do_control::control(file, m, t);
-            Performed {
-                number: 0,
-                trapped: false,
-                marks: h,
-                progress: q,
-                bus: mach_tally::none(),
-            }
+            let h = do_control::control(file, marks, t);
+            Ok(Performed { marks: h, ..quiet })
         }
         Instr::Modes(t) => {
-            let r = do_mode::mode(file, ram, rom, m, t);
-            marked(q, r)
+            let r = do_mode::mode(file, ram, rom, marks, t);
+            Ok(Performed {
+                marks: r.marks,
+                bus: r.bus,
+                ..quiet
+            })
         }
-        Instr::Cards(t) => card(file, ram, rom, tape, log, m, q, t),
+        Instr::Cards(t) => {
+            let a = do_8080::card(file, ram, rom, tape, log, marks, progress, t)?;
+            Ok(Performed {
+                trapped: false,
+                marks: a.marks,
+                progress: a.progress,
+                bus: a.bus,
+            })
+        }
     }
 }

@@ -34,10 +34,9 @@ module _ (base n a : ℕ) where
 -- ---- whether a line's bytes land
 
 module _ (base n g : ℕ) (s : List ℕ) where
-  pub lands_step : (k : ℕ) (b x : Bool) (a : ℕ) → (k ≡ 0 → ⊥) → b ≡ all (lands_in base n g s) (k - 1) → a ≡ place g s (k - 1) → x ≡ inside base n a
-      → (b && x) ≡ all (lands_in base n g s) k
+  pub lands_more : (k : ℕ) (b x : Bool) (a : ℕ) → b ≡ all (lands_in base n g s) k → a ≡ place g s k → x ≡ inside base n a → (b && x) ≡ all (lands_in base n g s) (k + 1)
   unfolding lands_in
-  lands_step k b x a p e q r = rw (all_more (lands_in base n g s) k p, e, r, q)
+  lands_more k b x a e q r = rw (all_more (lands_in base n g s) k, e, r, q)
 
   pub data_lands : {k i : ℕ} (t : Bool) → k ≡ kind s → k ≡ 0 → i ≡ size s → t ≡ all (lands_in base n g s) i → t ≡ lands base n g s
   unfolding lands

@@ -3,6 +3,7 @@ use Prim.Native.Nat.{ℕ, zero, suc, ◌+◌, ◌-◌, ◌%◌, ◌≤◌, ◌<�
 use mathlib.Core.Path.{◌≡◌, refl, sym}
 use mathlib.Core.Bool.{Bool, true, false, ◌&&◌}
 use mathlib.Core.List.{List}
+use native.Mathlib.Omega.{arith}
 use native.Mathlib.Numerals.{add-one, sub-one}
 use lib.ListN.{get_or, length, get_or-eq_default}
 use lib.Dec.{ltb, eqb}
@@ -19,34 +20,31 @@ module _ (c : ℕ) where
   unfolding digit
   below_digits h = rw (lt-ltb c 48 h)
 
-  module _ (h₁ : 48 ≤ c) where
-    pub decimal : c < 58 → c - 48 ≡ digit c
-    unfolding digit
-    decimal h = rw (le-ltb c 48 h₁, lt-ltb c 58 h)
+  pub decimal : 48 ≤ c → c < 58 → c - 48 ≡ digit c
+  unfolding digit
+  decimal h k = rw (le-ltb c 48 h, lt-ltb c 58 k)
 
-    module _ (h₂ : 58 ≤ c) where
-      pub below_upper : c < 65 → 16 ≡ digit c
-      unfolding digit
-      below_upper h = rw (le-ltb c 48 h₁, le-ltb c 58 h₂, lt-ltb c 65 h)
+  pub below_upper : 58 ≤ c → c < 65 → 16 ≡ digit c
+  unfolding digit
+  below_upper h k = rw (le-ltb c 48 (omega arith), le-ltb c 58 h, lt-ltb c 65 k)
 
-      module _ (h₃ : 65 ≤ c) where
-        pub upper : c < 71 → c - 55 ≡ digit c
-        unfolding digit
-        upper h = rw (le-ltb c 48 h₁, le-ltb c 58 h₂, le-ltb c 65 h₃, lt-ltb c 71 h)
+  pub upper : 65 ≤ c → c < 71 → c - 65 + 10 ≡ digit c
+  unfolding digit
+  upper h k = rw (le-ltb c 48 (omega arith), le-ltb c 58 (omega arith), le-ltb c 65 h, lt-ltb c 71 k) (omega arith)
 
-        module _ (h₄ : 71 ≤ c) where
-          pub below_lower : c < 97 → 16 ≡ digit c
-          unfolding digit
-          below_lower h = rw (le-ltb c 48 h₁, le-ltb c 58 h₂, le-ltb c 65 h₃, le-ltb c 71 h₄, lt-ltb c 97 h)
+  pub below_lower : 71 ≤ c → c < 97 → 16 ≡ digit c
+  unfolding digit
+  below_lower h k = rw (le-ltb c 48 (omega arith), le-ltb c 58 (omega arith), le-ltb c 65 (omega arith), le-ltb c 71 h, lt-ltb c 97 k)
 
-          module _ (h₅ : 97 ≤ c) where
-            pub lower : c < 103 → c - 87 ≡ digit c
-            unfolding digit
-            lower h = rw (le-ltb c 48 h₁, le-ltb c 58 h₂, le-ltb c 65 h₃, le-ltb c 71 h₄, le-ltb c 97 h₅, lt-ltb c 103 h)
+  pub lower : 97 ≤ c → c < 103 → c - 97 + 10 ≡ digit c
+  unfolding digit
+  lower h k =
+      rw (le-ltb c 48 (omega arith), le-ltb c 58 (omega arith), le-ltb c 65 (omega arith), le-ltb c 71 (omega arith), le-ltb c 97 h, lt-ltb c 103 k) (omega arith)
 
-            pub beyond_digits : 103 ≤ c → 16 ≡ digit c
-            unfolding digit
-            beyond_digits h = rw (le-ltb c 48 h₁, le-ltb c 58 h₂, le-ltb c 65 h₃, le-ltb c 71 h₄, le-ltb c 97 h₅, le-ltb c 103 h)
+  pub beyond_digits : 103 ≤ c → 16 ≡ digit c
+  unfolding digit
+  beyond_digits h =
+      rw (le-ltb c 48 (omega arith), le-ltb c 58 (omega arith), le-ltb c 65 (omega arith), le-ltb c 71 (omega arith), le-ltb c 97 (omega arith), le-ltb c 103 h)
 
 -- ---- the walks below k
 
@@ -55,31 +53,22 @@ module _ (f : ℕ → Bool) where
   unfolding all
   all_none = refl
 
-  pub all_more : (k : ℕ) → (k ≡ 0 → ⊥) → all f k ≡ all f (k - 1) && f (k - 1)
+  pub all_more : (k : ℕ) → all f (k + 1) ≡ all f k && f k
   unfolding all
-  all_more zero p = absurd (p refl)
-  all_more (suc k) p = rw (sub-one (suc k))
+  all_more k = rw (add-one k)
 
 module _ (f : ℕ → ℕ) where
   pub sum_none : 0 ≡ sum f 0
   unfolding sum
   sum_none = refl
 
-  pub sum_more : (k : ℕ) → (k ≡ 0 → ⊥) → sum f k ≡ (sum f (k - 1) + f (k - 1)) % 256
+  pub sum_more : (k b x : ℕ) → b ≡ sum f k → x ≡ f k → (b + x) % 256 ≡ sum f (k + 1)
   unfolding sum
-  sum_more zero p = absurd (p refl)
-  sum_more (suc k) p = rw (sub-one (suc k))
+  sum_more k b x e q = rw (add-one k, e, q)
 
-pub sum_step : (f : ℕ → ℕ) (k : ℕ) (b x : ℕ) → (k ≡ 0 → ⊥) → b ≡ sum f (k - 1) → x ≡ f (k - 1) → (b + x) % 256 ≡ sum f k
-sum_step f k b x p e q = rw (sum_more f k p, e, q)
-
-pub digit_at_lem : (s : List ℕ) (k : ℕ) → (k ≡ 0 → ⊥) → digit_at s (k - 1) ≡ ltb (digit (get_or s k 0)) 16
+pub digits_more : (s : List ℕ) (k : ℕ) (b : Bool) (c d : ℕ) → b ≡ all (digit_at s) k → c ≡ get_or s (k + 1) 0 → d ≡ digit c → (b && ltb d 16) ≡ all (digit_at s) (k + 1)
 unfolding digit_at
-digit_at_lem s zero p = absurd (p refl)
-digit_at_lem s (suc k) p = rw (sub-one (suc k), add-one k)
-
-pub digits_step : (s : List ℕ) (k : ℕ) (b : Bool) (c d : ℕ) → (k ≡ 0 → ⊥) → b ≡ all (digit_at s) (k - 1) → c ≡ get_or s k 0 → d ≡ digit c → (b && ltb d 16) ≡ all (digit_at s) k
-digits_step s k b c d p e q r = rw (all_more (digit_at s) k p, e, digit_at_lem s k p, r, q)
+digits_more s k b c d e q r = rw (all_more (digit_at s) k, e, r, q)
 
 -- ---- a line's end
 

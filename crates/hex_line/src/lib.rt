@@ -9,60 +9,49 @@ ghost use Rattle.hex_form.specs.Line.{ending, width, span, taken, formed, summed
 fn char_at(s: &[u8], i: usize) -> u8
     ensures { result ≡ get_or s.now i 0 }
 {
-    if i < s.len() {
-        return s[i];
-    }
-    0
+    if i < s.len() { s[i] } else { 0 }
 }
 
-// The value of a digit; 16 for any other character.
+// The value of a digit. Any other character has 16, with which the definition of a line's bytes reckons: so no Option.
 fn value_of(c: u8) -> u8
     ensures { result ≡ digit c }
 {
-    if c < 48 {
-        return 16;
+    match c {
+        b'0'..=b'9' => c - b'0',
+        b'A'..=b'F' => c - b'A' + 10,
+        b'a'..=b'f' => c - b'a' + 10,
+        _ => 16,
     }
-    if c < 58 {
-        return c - 48;
-    }
-    if c < 65 {
-        return 16;
-    }
-    if c < 71 {
-        return c - 55;
-    }
-    if c < 97 {
-        return 16;
-    }
-    if c < 103 {
-        return c - 87;
-    }
-    16
 }
 
-pub fn byte_at(s: &[u8], i: usize) -> usize
+#[tactic(auto, unfolding(hex_form::specs::Line::byte))]
+pub fn byte_at(s: &[u8], i: usize) -> u8
     requires { i ≤ 300 }
     ensures { result ≡ byte s.now i }
 {
     let high = value_of(char_at(s, 2 * i + 1));
     let low = value_of(char_at(s, 2 * i + 2));
-    (16 * high as usize + low as usize) % 256
+    ((16 * high as u16 + low as u16) % 256) as u8
 }
 
-pub fn size_of(s: &[u8]) -> usize
+#[tactic(auto, unfolding(hex_form::specs::Line::size))]
+pub fn size_of(s: &[u8]) -> u8
     ensures { result ≡ size s.now }
 {
     byte_at(s, 0)
 }
 
-pub fn offset_of(s: &[u8]) -> usize
+#[tactic(auto, unfolding(hex_form::specs::Line::offset))]
+pub fn offset_of(s: &[u8]) -> u16
     ensures { result ≡ offset s.now }
 {
     let high = byte_at(s, 1);
-    256 * high + byte_at(s, 2)
+    let low = byte_at(s, 2);
+    256 * high as u16 + low as u16
 }
 
-pub fn kind_of(s: &[u8]) -> usize
+#[tactic(auto, unfolding(hex_form::specs::Line::kind))]
+pub fn kind_of(s: &[u8]) -> u8
     ensures { result ≡ kind s.now }
 {
     byte_at(s, 3)
@@ -72,23 +61,23 @@ pub fn kind_of(s: &[u8]) -> usize
 fn digits_to(s: &[u8], k: usize) -> bool
     ensures { result ≡ all (digit_at s.now) k }
 {
-    if k == 0 {
-        return true;
+    let mut digits = true;
+    for i in 0..k {
+        digits &= value_of(char_at(s, i + 1)) < 16;
     }
-    let before = digits_to(s, k - 1);
-    before & (value_of(char_at(s, k)) < 16)
+    digits
 }
 
 // The sum of the first k bytes, in a byte.
-fn sum_to(s: &[u8], k: usize) -> usize
+fn sum_to(s: &[u8], k: usize) -> u8
     requires { k ≤ 300 }
     ensures { result ≡ sum (byte s.now) k }
 {
-    if k == 0 {
-        return 0;
+    let mut sum = 0u8;
+    for i in 0..k {
+        sum = sum.wrapping_add(byte_at(s, i));
     }
-    let before = sum_to(s, k - 1);
-    (before + byte_at(s, k - 1)) % 256
+    sum
 }
 
 fn ending_at(s: &[u8], i: usize) -> usize
@@ -106,13 +95,15 @@ fn ending_at(s: &[u8], i: usize) -> usize
     0
 }
 
+#[tactic(auto, unfolding(hex_form::specs::Line::width))]
 fn width_of(s: &[u8]) -> usize
     ensures { result ≡ width s.now }
 {
-    2 * size_of(s) + 11
+    2 * size_of(s) as usize + 11
 }
 
 // The line with its end.
+#[tactic(auto, unfolding(hex_form::specs::Line::span))]
 pub fn span_of(s: &[u8]) -> usize
     ensures { result ≡ span s.now }
 {
@@ -120,7 +111,7 @@ pub fn span_of(s: &[u8]) -> usize
     w + ending_at(s, w)
 }
 
-fn is_taken(k: usize, o: usize, n: usize) -> bool
+fn is_taken(k: u8, o: u16, n: u8) -> bool
     ensures { result ≡ taken k o n }
 {
     if k == 0 {
@@ -136,27 +127,26 @@ fn is_taken(k: usize, o: usize, n: usize) -> bool
 }
 
 // A colon, digits, and the line's end behind them.
+#[tactic(auto, unfolding(hex_form::specs::Line::written))]
 fn is_written(s: &[u8]) -> bool
     ensures { result ≡ written s.now }
 {
     let begins = char_at(s, 0) == b':';
-    let digits = digits_to(s, 2 * size_of(s) + 10);
-    let w = width_of(s);
-    let ends = 0 < ending_at(s, w);
+    let digits = digits_to(s, 2 * size_of(s) as usize + 10);
+    let ends = 0 < ending_at(s, width_of(s));
     begins & (digits & ends)
 }
 
+#[tactic(auto, unfolding(hex_form::specs::Line::formed))]
 pub fn is_formed(s: &[u8]) -> bool
     ensures { result ≡ formed s.now }
 {
-    let written = is_written(s);
-    let k = kind_of(s);
-    let o = offset_of(s);
-    written & is_taken(k, o, size_of(s))
+    is_written(s) & is_taken(kind_of(s), offset_of(s), size_of(s))
 }
 
+#[tactic(auto, unfolding(hex_form::specs::Line::summed))]
 pub fn is_summed(s: &[u8]) -> bool
     ensures { result ≡ summed s.now }
 {
-    sum_to(s, size_of(s) + 5) == 0
+    sum_to(s, size_of(s) as usize + 5) == 0
 }

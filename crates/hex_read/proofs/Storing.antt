@@ -4,7 +4,10 @@ use mathlib.Core.Path.{◌≡◌, refl, sym, ap, ◌∙◌}
 use mathlib.Core.Bool.{Bool, true, false, ◌&&◌, and-eq-true_iff}
 use mathlib.Core.List.{List, [], ◌∷◌, ◌++◌}
 use native.Mathlib.Omega.{arith}
-use native.Mathlib.Numerals.{sub-one}
+use native.Mathlib.Numerals.{add-one}
+use Rattle.sheet.specs.declared.Refusal.{Refusal}
+use Rattle.sheet.specs.Refusals.{refusal_number}
+use Rattle.sheet.proofs.RefusalLaws.{refusal_some}
 use lib.ListN.{length, take, drop, set, length-drop, drop_of_length-le}
 use lib.Seq.{drop-drop}
 use lib.Dec.{eqb, leb, ltb}
@@ -45,18 +48,16 @@ pub none_stored : (base : ℕ) (f : ℕ → Store) (image : List ℕ) → image 
 unfolding first_stores applied
 none_stored base f image = refl
 
-more_stores : (f : ℕ → Store) (k : ℕ) → (k ≡ 0 → ⊥) → first_stores f k ≡ first_stores f (k - 1) ++ (f (k - 1) ∷ [])
+more_stores : (f : ℕ → Store) (k : ℕ) → first_stores f (k + 1) ≡ first_stores f k ++ (f k ∷ [])
 unfolding first_stores
-more_stores f zero p = absurd (p refl)
-more_stores f (suc k) p = rw (sub-one (suc k))
+more_stores f k = rw (add-one k)
 
 module _ (base g : ℕ) (s image : List ℕ) where
-  pub one_more_stored : (k a v : ℕ) (x y : List ℕ) → (k ≡ 0 → ⊥) → x ≡ applied base (first_stores (store_at g s) (k - 1)) image → a ≡ place g s (k - 1) → v ≡ byte s (k + 3)
-      → y ≡ stored base (store a v) x → y ≡ applied base (first_stores (store_at g s) k) image
+  pub one_more_stored : (k a v : ℕ) (x y : List ℕ) → x ≡ applied base (first_stores (store_at g s) k) image → a ≡ place g s k → v ≡ byte s (k + 4)
+      → y ≡ stored base (store a v) x → y ≡ applied base (first_stores (store_at g s) (k + 1)) image
   unfolding store_at applied
-  one_more_stored k a v x y p e q r t =
-      let i : k - 1 + 4 ≡ k + 3 = omega arith in
-      rw (more_stores (store_at g s) k p, applied_append base (first_stores (store_at g s) (k - 1)) (store_at g s (k - 1) ∷ []) image, i, ← r, ← q, ← e) t
+  one_more_stored k a v x y e q r t =
+      rw (more_stores (store_at g s) k, applied_append base (first_stores (store_at g s) k) (store_at g s k ∷ []) image, ← r, ← q, ← e) t
 
   pub data_stored : {k i : ℕ} {y : List ℕ} → k ≡ kind s → k ≡ 0 → i ≡ size s → y ≡ applied base (first_stores (store_at g s) i) image → y ≡ applied base (line_stores g s) image
   unfolding line_stores
@@ -132,12 +133,12 @@ module _ {base : ℕ} {text image₀ image : List ℕ} {at segment : ℕ} (g : S
 
 -- ---- the whole reading
 
-module _ (text : List ℕ) (base : ℕ) (image : List ℕ) {number line : ℕ} (e : verdict_of base (length image) text ≡ verdict number line) where
-  pub checked : number ≡ 0 → number_of (verdict_of base (length image) text) ≡ 0
-  checked z = ap number_of e ∙ z
+module _ (text : List ℕ) (base : ℕ) (image : List ℕ) where
+  pub checked : verdict_of base (length image) text ≡ verdict 0 0 → number_of (verdict_of base (length image) text) ≡ 0
+  checked e = ap number_of e
 
-  pub stored_all : (image' : List ℕ) → number ≡ 0 → image' ≡ applied base (stores_of text) image → Reads text base image number line image'
-  stored_all image' z t = record { says = e; left = rw z t }
+  pub stored_all : (image' : List ℕ) → verdict_of base (length image) text ≡ verdict 0 0 → image' ≡ applied base (stores_of text) image → Reads text base image 0 0 image'
+  stored_all image' e t = record { says = e; left = t }
 
-  pub left_alone : (number ≡ 0 → ⊥) → Reads text base image number line image
-  left_alone f = record { says = e; left = rw (ne_eqb number 0 f) }
+  pub left_alone : (r : Refusal) (line : ℕ) → verdict_of base (length image) text ≡ verdict (refusal_number r) line → Reads text base image (refusal_number r) line image
+  left_alone r line e = record { says = e; left = rw (ne_eqb (refusal_number r) 0 (refusal_some r)) }

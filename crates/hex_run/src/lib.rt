@@ -2,6 +2,8 @@
 #![tactic(auto)]
 
 use console_files::{load, say, say_number};
+use hex_read::Faulty;
+use sheet::Refusal;
 use std::io::Print;
 
 // The buffers come from functions: of a call's result the length is known, and no check computes its elements.
@@ -23,82 +25,71 @@ fn base(rt: HostRuntime, index: usize, len: usize) -> u32 {
         }
         return 0;
     }
-    let b = console_files::number(rt, index);
-    if b < 1048577 {
-        return b as u32;
+    match console_files::number(rt, index) {
+        Some(base @ 0..=1048576) => base as u32,
+        _ => 1048577,
     }
-    1048577
 }
 
 // Writes the text of an image.
 fn print_text(rt: HostRuntime, image: &[u8], base: u32) {
     let mut out = text_buffer();
-    let r = hex_write::write(image, base, &mut out);
-    if r.number == 12 {
-        say(rt, b"12: the image reaches past FFFFFh\n");
-        return;
-    }
-    let n = console_files::within(r.len, &out);
-    if r.number != 0 {
-        say(rt, b"6: the text is too long\n");
-        return;
-    }
-    if rt.stdout().write_all(&out[..n]).is_err() {
-        say(rt, b"cannot write the text\n");
+    match hex_write::write(image, base, &mut out) {
+        Ok(len) => {
+            let n = console_files::within(len, &out);
+            if rt.stdout().write_all(&out[..n]).is_err() {
+                say(rt, b"cannot write the text\n");
+            }
+        }
+        Err(Refusal::OutsideImage) => say(rt, b"12: the image reaches past FFFFFh\n"),
+        Err(_) => say(rt, b"6: the text is too long\n"),
     }
 }
 
 // IMAGE and ADDRESS to a text on standard output.
 pub fn to_hex(rt: HostRuntime) {
     let mut image = image_buffer();
-    let l = load(rt, 1, &mut image);
-    if !l.ok {
-        return;
+    if let Ok(len) = load(rt, 1, &mut image) {
+        print_text(rt, &image[..len], base(rt, 2, len));
     }
-    print_text(rt, &image[..l.len], base(rt, 2, l.len));
 }
 
 // Says why a text was refused.
-fn refuse(rt: HostRuntime, number: u8, line: usize) {
-    say_number(rt, number as u64);
+fn refuse(rt: HostRuntime, faulty: Faulty) {
+    say_number(rt, faulty.refusal.number() as u64);
     say(rt, b": line ");
-    say_number(rt, line as u64);
-    if number == 10 {
-        say(
+    say_number(rt, faulty.line as u64);
+    match faulty.refusal {
+        Refusal::MalformedLine => say(
             rt,
             b": is no line of Intel HEX that is taken here, or the end line is missing, or text follows it\n",
-        );
-    } else if number == 11 {
-        say(rt, b": its checksum is wrong\n");
-    } else {
-        say(rt, b": names a byte outside the image\n");
+        ),
+        Refusal::WrongChecksum => say(rt, b": its checksum is wrong\n"),
+        _ => say(rt, b": names a byte outside the image\n"),
     }
 }
 
 // Writes the image once a text was read into it.
 fn print_image(rt: HostRuntime, text: &[u8], image: &mut [u8], base: u32) {
-    let r = hex_read::read(text, image, base);
-    if r.number != 0 {
-        refuse(rt, r.number, r.line);
-        return;
-    }
-    if rt.stdout().write_all(image).is_err() {
-        say(rt, b"cannot write the image\n");
+    match hex_read::read(text, image, base) {
+        Ok(()) => {
+            if rt.stdout().write_all(image).is_err() {
+                say(rt, b"cannot write the image\n");
+            }
+        }
+        Err(faulty) => refuse(rt, faulty),
     }
 }
 
 // TEXT, IMAGE and ADDRESS to the image with the text's bytes, on standard output.
 pub fn from_hex(rt: HostRuntime) {
     let mut text = text_buffer();
-    let t = load(rt, 1, &mut text);
-    if !t.ok {
+    let Ok(size) = load(rt, 1, &mut text) else {
         return;
-    }
+    };
     let mut image = image_buffer();
-    let l = load(rt, 2, &mut image);
-    if !l.ok {
-        return;
+    if let Ok(len) = load(rt, 2, &mut image) {
+        let first = base(rt, 3, len);
+        print_image(rt, &text[..size], &mut image[..len], first);
     }
-    let first = base(rt, 3, l.len);
-    print_image(rt, &text[..t.len], &mut image[..l.len], first);
 }

@@ -30,6 +30,9 @@ module _ (g a : ℕ) where
   pub segment_under : 16 * g ≤ a → {h : ℕ} → h ≡ segment_for g a → 16 * h ≤ a
   segment_under low e = rw e (segment_low g a low)
 
+  pub offset_small : 16 * g ≤ a → {h : ℕ} → h ≡ segment_for g a → a - 16 * h ≤ 65535
+  offset_small low e = rw e (omega (arith, segment_fits g a low))
+
   -- the room for a chunk is room for its first line
   pub chunk_front : (x out : List ℕ) → length (chunk_text g a x) ≤ length out → length (turn_text g a) ≤ length out
   chunk_front x out h = omega (arith, chunk_long g a x)
@@ -37,10 +40,6 @@ module _ (g a : ℕ) where
   module _ (x : List ℕ) {s l : List ℕ} {r : ℕ} (w : Writes (turn_text g a) s r l) where
     pub turn_within : r ≤ length l
     turn_within = omega (arith, w.within, same w)
-
-    module _ (low : 16 * g ≤ a) {h : ℕ} (e : h ≡ segment_for g a) where
-      pub offset_small : a - 16 * h ≤ 65535
-      offset_small = rw e (omega (arith, segment_fits g a low))
 
     pub data_room : length (chunk_text g a x) ≤ length s → 2 * length x + 12 ≤ length (take (length l - r) (drop r l))
     data_room q = rw (← record_long 0 0 x) (room w (line_text (line_bytes 0 0 x)) (omega (arith, chunk_long g a x, record_long 0 0 x, length-append (turn_text g a) (line_text (line_bytes 0 0 x)))))

@@ -1,6 +1,7 @@
 // Lists the ROM image on standard input.
 #![tactic(auto)]
 
+use sheet::Refusal;
 use std::io::Print;
 
 // One byte more than an image may have, so that a longer input is known.
@@ -15,17 +16,16 @@ fn say(rt: HostRuntime, text: &[u8]) {
 // Prints the listing of an image.
 fn print_lines(rt: HostRuntime, image: &[u8]) {
     let mut out = rom_list::lines_buffer();
-    let r = rom_list::list(image, &mut out);
-    if r.number == 17 {
-        say(rt, b"listrom: 17: the image has more than 32768 bytes\n");
-        return;
-    }
-    if r.number != 0 {
-        say(rt, b"listrom: 6: the listing is too long\n");
-        return;
-    }
-    if rt.stdout().write_all(&out[..r.len]).is_err() {
-        say(rt, b"listrom: cannot write the listing\n");
+    match rom_list::list(image, &mut out) {
+        Ok(len) => {
+            if rt.stdout().write_all(&out[..len]).is_err() {
+                say(rt, b"listrom: cannot write the listing\n");
+            }
+        }
+        Err(Refusal::ImageTooLong) => {
+            say(rt, b"listrom: 17: the image has more than 32768 bytes\n");
+        }
+        Err(_) => say(rt, b"listrom: 6: the listing is too long\n"),
     }
 }
 

@@ -2,40 +2,35 @@
 #![tactic(auto)]
 
 use sheet::GapRule;
-use std::io::Print;
-
-// The buffers come from functions: of a call's result the length is known, and no check computes its elements.
+use std::io::{Eprint, Print};
 
 // One byte more than a log may have, so that a longer input is known.
-fn input_buffer() -> [u8; 65537] {
-    [0; 65537]
-}
+const INPUT: usize = 65537;
 
 // Room for the longest listing: 12 bytes for each byte of a log, and 40.
-fn output_buffer() -> [u8; 786472] {
-    [0; 786472]
-}
+const OUTPUT: usize = 786472;
 
-fn say(rt: HostRuntime, text: &[u8]) {
-    let _ = rt.stderr().write_all(text);
+// A buffer comes from a function: of a call's result the length is known, and no check computes its elements.
+fn bytes<const N: usize>() -> [u8; N] {
+    [0; N]
 }
 
 // Prints the listing of a log that was written under a rule.
 fn print(rt: HostRuntime, log: &[u8], rule: GapRule) {
-    let mut out = output_buffer();
+    let mut out: [u8; OUTPUT] = bytes();
     let n = log_listing::report(log, rule, &mut out);
     if rt.stdout().write_all(&out[..n]).is_err() {
-        say(rt, b"listlog: cannot write the listing\n");
+        let _ = eprintln!(rt; "listlog: cannot write the listing");
     }
 }
 
 // Prints the listing of the log on standard input.
 pub fn run(rt: HostRuntime, rule: GapRule) {
-    let mut input = input_buffer();
+    let mut input: [u8; INPUT] = bytes();
     let n = base_input::read_full(&mut rt.stdin(), &mut input);
-    if n == 65537 || base_input::at_end(&mut rt.stdin()) {
+    if n == INPUT || base_input::at_end(&mut rt.stdin()) {
         print(rt, &input[..n], rule);
     } else {
-        say(rt, b"listlog: cannot read the input\n");
+        let _ = eprintln!(rt; "listlog: cannot read the input");
     }
 }

@@ -1,17 +1,17 @@
 -- What each return of the code comes to, over plain values.
-use Prim.Native.Nat.{ℕ}
+use Prim.Native.Nat.{ℕ, ◌<◌}
 use mathlib.Core.Path.{◌≡◌}
 use mathlib.Core.Bool.{Bool, true, false, not, ◌&&◌}
 use mathlib.Core.List.{List}
-use lib.Dec.{eqb}
+use lib.Dec.{eqb, ltb}
 use lib.ListN.{get_or, set}
-use borrow.Author.Tests.{eq-eqb, ne_eqb}
+use borrow.Author.Tests.{eq-eqb, lt-ltb, ne_eqb}
 use Rattle.sheet.specs.declared.Bus.{Bus}
 use Rattle.sheet.specs.declared.Primitive.{Primitive}
 use Rattle.sheet.specs.declared.Repeat.{Repeat}
 use Rattle.sheet.specs.Width.{bytes_of, add16, sub16}
 use Rattle.sheet.specs.Psw.{Flag, DIR, flag_of}
-use Rattle.sheet.specs.Registers.{CW, IX, IY, DS1, PC, PSW, file_of, written, segment}
+use Rattle.sheet.specs.Registers.{CW, IX, IY, DS1, PC, PSW, file_of, segment}
 use Rattle.sheet.specs.Act.{pure, ◌>>=◌, ◌≔◌, flag}
 use Rattle.sheet.specs.Branch.{count_down}
 use Rattle.sheet.specs.Block.{stepped_of, step_index, source_element, target_element, set_target, goes_on_after, after_element}
@@ -32,9 +32,12 @@ module _ (w down : Bool) (x n y : ℕ) where
   unfolding stepped_of
   stepped_up d e q = rw (d, ← e) q
 
-pub step_is : (n : ℕ) (f : List ℕ) (w down : Bool) (x : ℕ) → down ≡ flag_of (get_or f PSW 0) DIR → x ≡ stepped_of w down (file_of f n) → OnFile Unit (step_index w n) f tt (written f n x)
-unfolding step_index stepped_of
-step_is n f w down x e q = file_seq _ (file_flag DIR e) (file_seq _ file_registers (rw (← q) (file_set n x)))
+pub step_is : (n : ℕ) (f : List ℕ) (w down : Bool) (x : ℕ) → n < 13 → down ≡ flag_of (get_or f PSW 0) DIR → x ≡ stepped_of w down (get_or f n 0) → OnFile Unit (step_index w n) f tt (set f n x)
+unfolding step_index
+step_is n f w down x l e q = file_seq _ (file_flag DIR e) (file_seq _ file_registers (go (lt-ltb n 13 l)))
+  where
+    go : ltb n 13 ≡ true → OnFile Unit (n ≔ stepped_of w down (file_of f n)) f tt (set f n x)
+    go t = rw (t, ← q) (rw t at (file_set n x {f = f}))
 
 -- ---- the elements due
 
@@ -65,20 +68,16 @@ module _ (n : ℕ) where
 pub denied : (q : Flag) {f : List ℕ} {b : Bool} → b ≡ flag_of (get_or f PSW 0) q → OnFile Bool (flag q >>= (λ c. pure (not c))) f (not b) f
 denied q e = file_seq _ (file_flag q e) file_pure
 
-module _ (f : List ℕ) (k : Primitive) (q : Repeat) where
-  pub after_known : (j : Primitive) (b : Bool) → k ≡ j → OnFile Bool (goes_on_after j q) f b f → OnFile Bool (goes_on_after k q) f b f
-  after_known j b e h = rw e h
+module _ (f : List ℕ) (k : Primitive) (q : Repeat) (start cw : ℕ) (on : Bool) where
+  counts : cw ≡ sub16 (get_or f CW 0) 1 → OnFile Bool count_down f (not (eqb cw 0)) (set f CW cw)
+  unfolding count_down
+  counts e = file_seq _ file_registers (rw (← e) (file_seq _ (file_set CW cw) file_pure))
 
-  module _ (start cw : ℕ) (on : Bool) where
-    counts : cw ≡ sub16 (get_or f CW 0) 1 → OnFile Bool count_down f (not (eqb cw 0)) (set f CW cw)
-    unfolding count_down
-    counts e = file_seq _ file_registers (rw (← e) (file_seq _ (file_set CW cw) file_pure))
+  pub goes_back : cw ≡ sub16 (get_or f CW 0) 1 → OnFile Bool (goes_on_after k q) (set f CW cw) on (set f CW cw) → (on && not (eqb cw 0)) ≡ true
+      → OnFile Unit (after_element k q start) f tt (set (set f CW cw) PC start)
+  unfolding after_element
+  goes_back e h z = file_seq _ (counts e) (file_seq _ h (file_true (PC ≔ start) (pure tt) z (file_set PC start)))
 
-    pub goes_back : cw ≡ sub16 (get_or f CW 0) 1 → OnFile Bool (goes_on_after k q) (set f CW cw) on (set f CW cw) → (on && not (eqb cw 0)) ≡ true
-        → OnFile Unit (after_element k q start) f tt (set (set f CW cw) PC start)
-    unfolding after_element
-    goes_back e h z = file_seq _ (counts e) (file_seq _ h (file_true (PC ≔ start) (pure tt) z (file_set PC start)))
-
-    pub stays : cw ≡ sub16 (get_or f CW 0) 1 → OnFile Bool (goes_on_after k q) (set f CW cw) on (set f CW cw) → (on && not (eqb cw 0)) ≡ false → OnFile Unit (after_element k q start) f tt (set f CW cw)
-    unfolding after_element
-    stays e h z = file_seq _ (counts e) (file_seq _ h (file_false (PC ≔ start) (pure tt) z file_pure))
+  pub stays : cw ≡ sub16 (get_or f CW 0) 1 → OnFile Bool (goes_on_after k q) (set f CW cw) on (set f CW cw) → (on && not (eqb cw 0)) ≡ false → OnFile Unit (after_element k q start) f tt (set f CW cw)
+  unfolding after_element
+  stays e h z = file_seq _ (counts e) (file_seq _ h (file_false (PC ≔ start) (pure tt) z file_pure))

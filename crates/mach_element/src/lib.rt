@@ -1,13 +1,14 @@
 // What the block primitives are made of: the elements due, the index registers, and how a repeat goes on.
 #![tactic(auto)]
 
-ghost use Rattle.std.specs.Prelude.{◌≡◌, Bool, ℕ};
+ghost use Rattle.std.specs.Prelude.{◌≡◌, ◌<◌, Bool, ℕ};
 ghost use Rattle.sheet.specs.Registers as sheet;
 ghost use Rattle.sheet.specs.Block as tree;
 ghost use Rattle.sheet.specs.Contract.{OnFile};
 ghost use Rattle.mach_tally.specs.Lent.{Finds, Fills};
-ghost use Rattle.mach_element.specs.Due.{counted_due, due_of};
+ghost use Rattle.mach_element.specs.Due.{due_of};
 
+use calc_flags::{CY, DIR, Z, flag};
 use mach_memory::Loaded;
 use mach_registers::{CW, DS1, IX, IY, PC, PSW};
 use sheet::{Bus, Primitive, Repeat};
@@ -25,18 +26,13 @@ fn stepped(word: bool, down: bool, x: u16) -> u16
     calc_word::plus16(x, n)
 }
 
-pub fn step_ix(word: bool, file: &mut [u16; 14])
-    ensures { OnFile Unit (tree.step_index word sheet.IX) file.old tt file.new }
+// IX or IY, by its place in the file.
+pub fn step_index(word: bool, file: &mut [u16; 14], index: usize)
+    requires { index < 13 }
+    ensures { OnFile Unit (tree.step_index word index) file.old tt file.new }
 {
-    let down = calc_flags::dir(file[PSW]);
-    file[IX] = stepped(word, down, file[IX]);
-}
-
-pub fn step_iy(word: bool, file: &mut [u16; 14])
-    ensures { OnFile Unit (tree.step_index word sheet.IY) file.old tt file.new }
-{
-    let down = calc_flags::dir(file[PSW]);
-    file[IY] = stepped(word, down, file[IY]);
+    let down = flag::<DIR>(file[PSW]);
+    file[index] = stepped(word, down, file[index]);
 }
 
 // ---- the elements due
@@ -75,24 +71,14 @@ pub enum Due {
     Element,
 }
 
-fn counted(cw: u16) -> Due
-    ensures { result ≡ counted_due cw }
-{
-    if cw == 0 {
-        return Due::Nothing;
-    }
-    Due::Element
-}
-
+#[tactic(auto, unfolding(crate::specs::Due::due_of, crate::specs::Due::counted_due))]
 pub fn what_is_due(cw: u16, repeat: Repeat) -> Due
     ensures { result ≡ due_of cw repeat }
 {
     match repeat {
         Repeat::Once => Due::Single,
-        Repeat::WhileZ => counted(cw),
-        Repeat::WhileNotZ => counted(cw),
-        Repeat::WhileCy => counted(cw),
-        Repeat::WhileNotCy => counted(cw),
+        _ if cw == 0 => Due::Nothing,
+        _ => Due::Element,
     }
 }
 
@@ -102,24 +88,20 @@ fn goes_on(file: &[u16; 14], repeat: Repeat) -> bool
 {
     match repeat {
         Repeat::Once => false,
-        Repeat::WhileZ => calc_flags::z(file[PSW]),
-        Repeat::WhileNotZ => !calc_flags::z(file[PSW]),
-        Repeat::WhileCy => calc_flags::cy(file[PSW]),
-        Repeat::WhileNotCy => !calc_flags::cy(file[PSW]),
+        Repeat::WhileZ => flag::<Z>(file[PSW]),
+        Repeat::WhileNotZ => !flag::<Z>(file[PSW]),
+        Repeat::WhileCy => flag::<CY>(file[PSW]),
+        Repeat::WhileNotCy => !flag::<CY>(file[PSW]),
     }
 }
 
+#[tactic(auto, using(sheet::proofs::Lifted::file_pure), unfolding(sheet::specs::Block::goes_on_after))]
 fn goes_on_after(file: &[u16; 14], primitive: Primitive, repeat: Repeat) -> bool
     ensures { OnFile Bool (tree.goes_on_after primitive repeat) file.now result file.now }
 {
     match primitive {
-        Primitive::Movbk => true,
-        Primitive::Cmpbk => goes_on(file, repeat),
-        Primitive::Cmpm => goes_on(file, repeat),
-        Primitive::Ldm => true,
-        Primitive::Stm => true,
-        Primitive::Inm => true,
-        Primitive::Outm => true,
+        Primitive::Cmpbk | Primitive::Cmpm => goes_on(file, repeat),
+        _ => true,
     }
 }
 

@@ -4,7 +4,7 @@
 ghost use Rattle.std.specs.Prelude.{◌≡◌};
 ghost use Rattle.sheet.specs.Operand.{form_at};
 
-use sheet::{Form, Index};
+use sheet::Form;
 
 const BW: u8 = 3;
 
@@ -21,42 +21,42 @@ const DS0: u8 = 3;
 const FORMS: [Form; 8] = [
     Form {
         base: BW,
-        index: Index::Of(IX),
+        index: Some(IX),
         seg: DS0,
     },
     Form {
         base: BW,
-        index: Index::Of(IY),
+        index: Some(IY),
         seg: DS0,
     },
     Form {
         base: BP,
-        index: Index::Of(IX),
+        index: Some(IX),
         seg: SS,
     },
     Form {
         base: BP,
-        index: Index::Of(IY),
+        index: Some(IY),
         seg: SS,
     },
     Form {
         base: IX,
-        index: Index::Nothing,
+        index: None,
         seg: DS0,
     },
     Form {
         base: IY,
-        index: Index::Nothing,
+        index: None,
         seg: DS0,
     },
     Form {
         base: BP,
-        index: Index::Nothing,
+        index: None,
         seg: SS,
     },
     Form {
         base: BW,
-        index: Index::Nothing,
+        index: None,
         seg: DS0,
     },
 ];

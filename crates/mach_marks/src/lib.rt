@@ -3,9 +3,7 @@
 
 ghost use Rattle.std.specs.Prelude.{true, false, ◌≡◌};
 ghost use Rattle.sheet.specs.World.{marks_of, mark_halted, mark_loaded, mark_writable};
-ghost use Rattle.sheet.specs.Transfer.{mov_in};
-ghost use Rattle.sheet.specs.Stack.{pop_in};
-ghost use Rattle.sheet.specs.Step.{marks_good, moves_in, loads_segment};
+ghost use Rattle.sheet.specs.Step.{marks_good, loads_segment};
 
 use sheet::{Instr, Marks, Move, Stack, Transfer};
 
@@ -23,32 +21,20 @@ pub fn none() -> Marks
 pub fn halting(m: Marks) -> Marks
     ensures { result ≡ mark_halted m true }
 {
-    Marks {
-        halted: true,
-        loaded: m.loaded,
-        writable: m.writable,
-    }
+    Marks { halted: true, ..m }
 }
 
 pub fn woken(m: Marks) -> Marks
     ensures { result ≡ mark_halted m false }
 {
-    Marks {
-        halted: false,
-        loaded: m.loaded,
-        writable: m.writable,
-    }
+    Marks { halted: false, ..m }
 }
 
 // The permission to write MD, given or taken back.
 pub fn permitting(m: Marks, b: bool) -> Marks
     ensures { result ≡ mark_writable m b }
 {
-    Marks {
-        halted: m.halted,
-        loaded: m.loaded,
-        writable: b,
-    }
+    Marks { writable: b, ..m }
 }
 
 pub fn good(m: Marks) -> bool
@@ -57,73 +43,17 @@ pub fn good(m: Marks) -> bool
     !(m.halted & m.loaded)
 }
 
-fn mov_in(i: Transfer) -> bool
-    ensures { result ≡ mov_in i }
-{
-    match i {
-        Transfer::Mov { word, to, from } => false,
-        Transfer::LoadAcc { word, from } => false,
-        Transfer::StoreAcc { word, to } => false,
-        Transfer::ToSegment { seg, from } => true,
-        Transfer::FromSegment { to, seg } => false,
-        Transfer::LoadPointer { seg, reg, from } => false,
-        Transfer::AhFromPsw => false,
-        Transfer::PswFromAh => false,
-        Transfer::Ldea { reg, from } => false,
-        Transfer::Trans { seg } => false,
-        Transfer::Xch { word, reg, with } => false,
-    }
-}
-
-fn pop_in(i: Stack) -> bool
-    ensures { result ≡ pop_in i }
-{
-    match i {
-        Stack::Push { from } => false,
-        Stack::PushByte { value } => false,
-        Stack::PushWord { value } => false,
-        Stack::PushSegment { seg } => false,
-        Stack::PushPsw => false,
-        Stack::PushR => false,
-        Stack::Pop { to } => false,
-        Stack::PopSegment { seg } => true,
-        Stack::PopR => false,
-        Stack::Prepare { size, level } => false,
-        Stack::Dispose => false,
-    }
-}
-
-fn moves_in(i: Move) -> bool
-    ensures { result ≡ moves_in i }
-{
-    match i {
-        Move::Transfers(t) => mov_in(t),
-        Move::Stacks(t) => pop_in(t),
-        Move::Branches(t) => false,
-        Move::Tests(t) => false,
-    }
-}
-
 // MOV by 8E, and POP into a segment register.
+#[tactic(auto, unfolding(sheet::specs::Step::loads_segment, sheet::specs::Step::moves_in, sheet::specs::Transfer::mov_in, sheet::specs::Stack::pop_in))]
 fn loads_segment(i: Instr) -> bool
     ensures { result ≡ loads_segment i }
 {
-    match i {
-        Instr::Computes(t) => false,
-        Instr::Moves(m) => moves_in(m),
-        Instr::Multiplies(t) => false,
-        Instr::Interrupts(t) => false,
-        Instr::Blocks {
-            primitive,
-            word,
-            seg,
-            repeat,
-        } => false,
-        Instr::Ports(t) => false,
-        Instr::Controls(t) => false,
-        Instr::Modes(t) => false,
-        Instr::Cards(t) => false,
-    }
+    matches!(
+        i,
+        Instr::Moves(
+            Move::Transfers(Transfer::ToSegment { .. }) | Move::Stacks(Stack::PopSegment { .. }),
+        )
+    )
 }
 
 // With the step that begins.
@@ -131,8 +61,7 @@ pub fn begun(m: Marks, i: Instr) -> Marks
     ensures { result ≡ mark_loaded m (loads_segment i) }
 {
     Marks {
-        halted: m.halted,
         loaded: loads_segment(i),
-        writable: m.writable,
+        ..m
     }
 }

@@ -45,7 +45,7 @@ fn write_byte(ram: &mut [u8], base: u16, offset: u16, v: u8) -> bool
 fn missed(landed: bool) -> u32
     ensures { Missed landed result }
 {
-    if landed { 0 } else { 1 }
+    u32::from(!landed)
 }
 
 // A byte, or a word with its low byte first.
@@ -54,7 +54,7 @@ pub fn read(word: bool, ram: &[u8], rom: &[u8], base: u16, offset: u16) -> u16
 {
     let low = read_byte(ram, rom, base, offset) as u16;
     if word {
-        let next = std::num::wrapping_add_u16(offset, 1);
+        let next = offset.wrapping_add(1);
         return low + 256 * (read_byte(ram, rom, base, next) as u16);
     }
     low
@@ -66,7 +66,7 @@ pub fn write(word: bool, ram: &mut [u8], base: u16, offset: u16, v: u16) -> u32
 {
     let low = missed(write_byte(ram, base, offset, (v % 256) as u8));
     if word {
-        let next = std::num::wrapping_add_u16(offset, 1);
+        let next = offset.wrapping_add(1);
         return low + missed(write_byte(ram, base, next, (v / 256 % 256) as u8));
     }
     low

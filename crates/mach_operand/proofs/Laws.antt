@@ -6,8 +6,7 @@ use mathlib.Core.List.{List}
 use native.Mathlib.Omega.{arith}
 use lib.ListN.{get_or}
 use Rattle.sheet.specs.declared.Bus.{Bus}
-use Rattle.sheet.specs.declared.Index.{Index}
-use Rattle.sheet.specs.declared.Index.TheVariants.{Of, Nothing}
+use Rattle.std.specs.Prelude.{Option, Some, None}
 use Rattle.sheet.specs.declared.Form.{Form}
 use Rattle.sheet.specs.declared.Address.{Address}
 use Rattle.sheet.specs.declared.Address.TheVariants.{Formed, Direct}
@@ -28,11 +27,11 @@ use Rattle.sheet.proofs.Lifted.{file_seq, file_pure, file_registers, memory_seq,
 use Rattle.mach_memory.specs.Accesses.{Loads, Stores}
 use Rattle.mach_registers.proofs.Laws.{file_reg}
 
-pub index_of_lem : (f : List ℕ) (i : Index) (n x : ℕ) → i ≡ Of n → x ≡ read_reg true (file_of f) n → x ≡ index_of (file_of f) i
+pub index_of_lem : (f : List ℕ) (i : Option ℕ) (n x : ℕ) → i ≡ Some n → x ≡ read_reg true (file_of f) n → x ≡ index_of (file_of f) i
 unfolding index_of
 index_of_lem f i n x e q = rw (e, q)
 
-pub index_none : (f : List ℕ) (i : Index) → i ≡ Nothing → 0 ≡ index_of (file_of f) i
+pub index_none : (f : List ℕ) (i : Option ℕ) → i ≡ None → 0 ≡ index_of (file_of f) i
 unfolding index_of
 index_none f i e = rw e
 
@@ -48,9 +47,6 @@ offset_formed f a seg n disp x e q = rw (e, q)
 pub offset_direct : (f : List ℕ) (a : Address) (seg x : ℕ) → a ≡ Direct seg x → x ≡ offset_of (file_of f) a
 unfolding offset_of
 offset_direct f a seg x e = rw e
-
-pub base_known : (f : List ℕ) (a b : Address) (x : ℕ) → a ≡ b → x ≡ base_of (file_of f) b → x ≡ base_of (file_of f) a
-base_known f a b x e q = rw e q
 
 pub in_register : (f : List ℕ) (p : Place) (n : ℕ) → p ≡ Register n → OnFile Spot (locate p) f (InRegister n) f
 unfolding locate

@@ -10,19 +10,21 @@ ghost use Rattle.mach_tally.specs.Lent.{Does, Finds};
 
 use mach_memory::Loaded;
 use mach_registers::CW;
-use sheet::{Address, Amount, Bus, Index, Place, Source, Spot};
+use sheet::{Address, Amount, Bus, Place, Source, Spot};
 
 // The word of an index register, or 0.
-fn index(file: &[u16; 14], i: Index) -> u16
+#[tactic(auto, using(crate::proofs::Laws::index_none, crate::proofs::Laws::index_of_lem))]
+fn index(file: &[u16; 14], i: Option<u8>) -> u16
     ensures { result ≡ index_of (file_of file.now) i }
 {
     match i {
-        Index::Of(n) => mach_registers::reg(true, file, n),
-        Index::Nothing => 0,
+        Some(n) => mach_registers::reg(true, file, n),
+        None => 0,
     }
 }
 
 // The offset of an address form with a displacement.
+#[tactic(auto, using(crate::proofs::Laws::form_sum))]
 fn form_offset(file: &[u16; 14], form: u8, disp: u16) -> u16
     ensures { result ≡ form_offset (file_of file.now) (form_at form) disp }
 {
@@ -33,26 +35,30 @@ fn form_offset(file: &[u16; 14], form: u8, disp: u16) -> u16
 }
 
 // An address's offset.
+#[tactic(auto, using(crate::proofs::Laws::offset_direct, crate::proofs::Laws::offset_formed))]
 pub fn offset(file: &[u16; 14], a: Address) -> u16
     ensures { result ≡ offset_of (file_of file.now) a }
 {
     match a {
-        Address::Formed { seg, form, disp } => form_offset(file, form, disp),
-        Address::Direct { seg, offset } => offset,
+        Address::Formed { form, disp, .. } => form_offset(file, form, disp),
+        Address::Direct { offset, .. } => offset,
     }
 }
 
 // The word of an address's segment register.
+#[tactic(auto, unfolding(sheet::specs::Operand::base_of))]
 pub fn base(file: &[u16; 14], a: Address) -> u16
     ensures { result ≡ base_of (file_of file.now) a }
 {
     match a {
-        Address::Formed { seg, form, disp } => mach_registers::base(file, seg),
-        Address::Direct { seg, offset } => mach_registers::base(file, seg),
+        Address::Formed { seg, .. } | Address::Direct { seg, .. } => {
+            mach_registers::base(file, seg)
+        }
     }
 }
 
 // A place with its address computed.
+#[tactic(auto, using(crate::proofs::Laws::in_memory_lem, crate::proofs::Laws::in_register))]
 pub fn locate(file: &[u16; 14], place: Place) -> Spot
     ensures { OnFile Spot (tree.locate place) file.now result file.now }
 {
@@ -143,6 +149,7 @@ pub fn pair_at(file: &[u16; 14], ram: &[u8], rom: &[u8], a: Address) -> Pair
 }
 
 // A number in CL or given.
+#[tactic(auto, using(crate::proofs::Laws::amount_cl, crate::proofs::Laws::amount_given))]
 pub fn amount(file: &[u16; 14], a: Amount) -> u8
     ensures { OnFile ℕ (tree.amount_of a) file.now result file.now }
 {

@@ -29,6 +29,8 @@ pub const PS: usize = 9;
 
 pub const SS: usize = 10;
 
+pub const DS0: usize = 11;
+
 pub const PC: usize = 12;
 
 pub const PSW: usize = 13;
@@ -42,7 +44,7 @@ pub fn reg(word: bool, file: &[u16; 14], n: u8) -> u16
         return file[i];
     }
     let i = (n % 4) as usize;
-    let held = calc_word::word(file[i]);
+    let held = file[i];
     if n % 8 < 4 {
         return held % 256;
     }
@@ -58,7 +60,7 @@ pub fn set_reg(word: bool, file: &mut [u16; 14], n: u8, v: u16)
         return;
     }
     let i = (n % 4) as usize;
-    let old = calc_word::word(file[i]);
+    let old = file[i];
     if n % 8 < 4 {
         file[i] = old / 256 * 256 + v % 256;
         return;

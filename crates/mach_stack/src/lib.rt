@@ -42,7 +42,7 @@ pub fn push_ps_pc(file: &mut [u16; 14], ram: &mut [u8], rom: &[u8]) -> Bus
 fn save(file: &mut [u16; 14], ram: &mut [u8], rom: &[u8], x: u16) -> Bus
     ensures { Around tree.save x file ram rom result 6 }
 {
-    let old = calc_word::word(file[PSW]);
+    let old = file[PSW];
     let a = push(file, ram, rom, old);
     file[PSW] = x;
     let b = push_ps_pc(file, ram, rom);
@@ -52,9 +52,9 @@ fn save(file: &mut [u16; 14], ram: &mut [u8], rom: &[u8], x: u16) -> Bus
 // Where a vector points.
 #[derive(Clone, Copy)]
 struct Target {
-    pub pc: u16,
-    pub ps: u16,
-    pub bus: Bus,
+    pc: u16,
+    ps: u16,
+    bus: Bus,
 }
 
 fn vector(ram: &[u8], rom: &[u8], v: u8) -> Target

@@ -16,23 +16,18 @@ pub fn none() -> Bus
     }
 }
 
+#[tactic(auto, unfolding(sheet::specs::Memory::bus_cycles))]
 fn cycles(word: bool, offset: u16) -> u32
     ensures { result ≡ bus_cycles word offset }
 {
-    if word {
-        return 1 + ((offset % 2) as u32);
-    }
-    1
+    if word { 1 + ((offset % 2) as u32) } else { 1 }
 }
 
 // An access of a width at an offset, or at a port.
 pub fn of_access(word: bool, offset: u16) -> Bus
     ensures { Costs word offset 0 result }
 {
-    Bus {
-        cycles: cycles(word, offset),
-        dropped: 0,
-    }
+    of_write(word, offset, 0)
 }
 
 // A write, so many bytes of which were dropped.
@@ -61,8 +56,5 @@ pub fn three(a: Bus, b: Bus, c: Bus) -> Bus
     requires { a.cycles + (b.cycles + c.cycles) + (a.dropped + (b.dropped + c.dropped)) ≤ 4294967295 }
     ensures { JoinsThree a b c result }
 {
-    Bus {
-        cycles: a.cycles + (b.cycles + c.cycles),
-        dropped: a.dropped + (b.dropped + c.dropped),
-    }
+    both(a, both(b, c))
 }

@@ -9,20 +9,19 @@ use lib.Dec.{eqb}
 use lib.ListN.{get_or, set}
 use borrow.Author.Tests.{ne_eqb, eq-eqb, lt-ltb}
 use Rattle.sheet.specs.declared.Address.TheVariants.{Formed, Direct}
-use Rattle.sheet.specs.declared.Index.TheVariants.{Of, Nothing}
+use Rattle.std.specs.Prelude.{Some, None}
 use Rattle.sheet.specs.declared.Flagged.{Flagged}
 use Rattle.sheet.specs.declared.Operation.{Operation}
-use Rattle.sheet.specs.declared.Operation.TheVariants.{Add, Cmp}
+use Rattle.sheet.specs.declared.Operation.TheVariants.{Add, Or, Addc, Subc, And, Sub, Xor, Cmp}
 use Rattle.sheet.specs.declared.Place.TheVariants.{Register}
 use Rattle.sheet.specs.declared.Source.TheVariants.{Held, Immediate}
 use Rattle.sheet.specs.declared.Spot.{Spot}
 use Rattle.sheet.specs.declared.Spot.TheVariants.{InRegister}
 use Rattle.sheet.specs.declared.Unary.{Unary}
-use Rattle.sheet.specs.declared.Unary.TheVariants.{Inc, Dec, Not, Neg}
 use Rattle.sheet.specs.Width.{pick, add16, sub16}
 use Rattle.sheet.specs.Psw.{CY, flag_of}
 use Rattle.sheet.specs.Registers.{PSW, CW, BW, in_ds0, file_of, read_reg, segment}
-use Rattle.sheet.specs.FirstByte.{operations, operation_at}
+use Rattle.sheet.specs.FirstByte.{operation_at}
 use Rattle.sheet.specs.Operand.{form, forms, form_at, index_of, form_offset, offset_of, base_of, locate, fetch, deposit, value_at, source_value, set_reg}
 use Rattle.sheet.specs.Act.{affect, pure}
 use Rattle.sheet.specs.Arithmetic.{Result, logical, unary, finish, operate, conclude, two, one, test}
@@ -40,7 +39,7 @@ use Rattle.quick_do.specs.Settle.{settle}
 
 -- ---- address forms
 
-pub base_at_lem : (n k : ℕ) → n % 8 ≡ k → (get_or forms k (form BW Nothing in_ds0)).base ≡ (form_at n).base
+pub base_at_lem : (n k : ℕ) → n % 8 ≡ k → (get_or forms k (form BW None in_ds0)).base ≡ (form_at n).base
 unfolding form_at
 base_at_lem n k e = rw e
 
@@ -56,43 +55,15 @@ below_eight n = omega arith
 pub base_last : (n : ℕ) → (n % 8 ≡ 0 → ⊥) → (n % 8 ≡ 1 → ⊥) → (n % 8 ≡ 2 → ⊥) → (n % 8 ≡ 3 → ⊥) → (n % 8 ≡ 4 → ⊥) → (n % 8 ≡ 5 → ⊥) → (n % 8 ≡ 6 → ⊥) → 3 ≡ (form_at n).base
 base_last n a b c d e f g = base_at_lem n 7 (seven (n % 8) (below_eight n) (from_four (n % 8) a b c d) e f g)
 
--- ---- the operation of a number
-
-pub op_at : (r k : ℕ) (op : Operation) → op_of r ≡ k → op ≡ get_or operations k Add → op ≡ operation_at (op_of r)
-unfolding operation_at
-op_at r k op e h = rw e h
-
-pub op_below : (r : ℕ) → op_of r < 8
-op_below r = omega arith
-
-pub op_last : (r : ℕ) → (op_of r ≡ 0 → ⊥) → (op_of r ≡ 1 → ⊥) → (op_of r ≡ 2 → ⊥) → (op_of r ≡ 3 → ⊥) → (op_of r ≡ 4 → ⊥) → (op_of r ≡ 5 → ⊥) → (op_of r ≡ 6 → ⊥) → Cmp ≡ operation_at (op_of r)
-unfolding operation_at
-op_last r a b c d e f g = rw (seven (op_of r) (op_below r) (from_four (op_of r) a b c d) e f g)
-
-pub unary_at_lem : (r k : ℕ) (op : Unary) → op_of r ≡ k → op ≡ get_or (Inc ∷ Dec ∷ Not ∷ Neg ∷ []) k Inc → op ≡ unary_at (op_of r)
-unfolding unary_at
-unary_at_lem r k op e h = rw e h
-
-others_inc : (k : ℕ) → (k ≡ 1 → ⊥) → (k ≡ 2 → ⊥) → (k ≡ 3 → ⊥) → Inc ≡ unary_at k
-unfolding unary_at
-others_inc zero a b c = refl
-others_inc (suc zero) a b c = absurd (a refl)
-others_inc (suc (suc zero)) a b c = absurd (b refl)
-others_inc (suc (suc (suc zero))) a b c = absurd (c refl)
-others_inc (suc (suc (suc (suc k)))) a b c = refl
-
-pub unary_else : (r : ℕ) → (op_of r ≡ 1 → ⊥) → (op_of r ≡ 2 → ⊥) → (op_of r ≡ 3 → ⊥) → Inc ≡ unary_at (op_of r)
-unary_else r a b c = others_inc (op_of r) a b c
-
 -- the first four forms have an index, the others none
-indexed : (k : ℕ) → k < 4 → (get_or forms k (form BW Nothing in_ds0)).index ≡ Of (6 + k % 2)
+indexed : (k : ℕ) → k < 4 → (get_or forms k (form BW None in_ds0)).index ≡ Some (6 + k % 2)
 indexed zero h = refl
 indexed (suc zero) h = refl
 indexed (suc (suc zero)) h = refl
 indexed (suc (suc (suc zero))) h = refl
 indexed (suc (suc (suc (suc k)))) h = absurd (omega arith)
 
-unindexed : (k : ℕ) → k < 8 → 4 ≤ k → (get_or forms k (form BW Nothing in_ds0)).index ≡ Nothing
+unindexed : (k : ℕ) → k < 8 → 4 ≤ k → (get_or forms k (form BW None in_ds0)).index ≡ None
 unindexed zero h l = absurd (omega arith)
 unindexed (suc zero) h l = absurd (omega arith)
 unindexed (suc (suc zero)) h l = absurd (omega arith)
@@ -103,11 +74,11 @@ unindexed (suc (suc (suc (suc (suc (suc zero)))))) h l = refl
 unindexed (suc (suc (suc (suc (suc (suc (suc zero))))))) h l = refl
 unindexed (suc (suc (suc (suc (suc (suc (suc (suc k)))))))) h l = absurd (omega arith)
 
-index_form : (n : ℕ) → n % 8 < 4 → (form_at n).index ≡ Of (6 + n % 8 % 2)
+index_form : (n : ℕ) → n % 8 < 4 → (form_at n).index ≡ Some (6 + n % 8 % 2)
 unfolding form_at
 index_form n h = indexed (n % 8) h
 
-no_index : (n : ℕ) → 4 ≤ n % 8 → (form_at n).index ≡ Nothing
+no_index : (n : ℕ) → 4 ≤ n % 8 → (form_at n).index ≡ None
 unfolding form_at
 no_index n h = unindexed (n % 8) (below_eight n) h
 
@@ -123,11 +94,11 @@ sum_one : (b d l : ℕ) → l ≡ add16 b d → l ≡ add16 (b + 0) d
 sum_one b d l e = omega arith
 
 module _ (f : List ℕ) (n disp b low : ℕ) (base : b ≡ (form_at n).base) (few : b ≤ 7) (sum : low ≡ add16 (get_or f b 0) disp) where
-  pub offset_two : (i x : ℕ) → n % 8 < 4 → i ≡ 6 + n % 2 → x ≡ add16 low (get_or f i 0) → x ≡ form_offset (file_of f) (form_at n) disp
+  pub offset_two : (i x : ℕ) → n % 8 < 4 → i ≡ n % 2 → x ≡ add16 low (get_or f (6 + i) 0) → x ≡ form_offset (file_of f) (form_at n) disp
   unfolding form_offset index_of
   offset_two i x h k e =
-      let p : i ≡ 6 + n % 8 % 2 = omega arith in
-      rw (← base, index_form n h, ← p, ← general f b (get_or f b 0) few refl, ← general f i (get_or f i 0) (omega arith) refl) (sum_two (get_or f b 0) (get_or f i 0) disp low x sum e)
+      let p : 6 + i ≡ 6 + n % 8 % 2 = omega arith in
+      rw (← base, index_form n h, ← p, ← general f b (get_or f b 0) few refl, ← general f (6 + i) (get_or f (6 + i) 0) (omega arith) refl) (sum_two (get_or f b 0) (get_or f (6 + i) 0) disp low x sum e)
 
   pub offset_one : 4 ≤ n % 8 → low ≡ form_offset (file_of f) (form_at n) disp
   unfolding form_offset index_of
@@ -151,26 +122,21 @@ base_is f r x e = go (eqb (rm_of r) 8)
 
 -- ---- operations
 
--- what is kept of the operation with a number
-pub concludes_at : (k : ℕ) (w : Bool) (s : Spot) (v : ℕ) → k < 8 → conclude (operation_at k) w s v ≡ pick (eqb k 7) (pure tt) (deposit w s v)
-unfolding operation_at conclude
-concludes_at zero w s v h = refl
-concludes_at (suc zero) w s v h = refl
-concludes_at (suc (suc zero)) w s v h = refl
-concludes_at (suc (suc (suc zero))) w s v h = refl
-concludes_at (suc (suc (suc (suc zero)))) w s v h = refl
-concludes_at (suc (suc (suc (suc (suc zero))))) w s v h = refl
-concludes_at (suc (suc (suc (suc (suc (suc zero)))))) w s v h = refl
-concludes_at (suc (suc (suc (suc (suc (suc (suc zero))))))) w s v h = refl
-concludes_at (suc (suc (suc (suc (suc (suc (suc (suc k)))))))) w s v h = absurd (omega arith)
+module _ (w : Bool) (n v : ℕ) (f g : List ℕ) where
+  pub drops_cmp : (op : Operation) → op ≡ Cmp → OnFile Unit (conclude op w (InRegister n) v) f tt f
+  unfolding conclude
+  drops_cmp op e = rw e file_pure
 
-module _ (r : ℕ) (w : Bool) (n v : ℕ) (f g : List ℕ) where
-  pub drops_cmp : op_of r ≡ 7 → OnFile Unit (conclude (operation_at (op_of r)) w (InRegister n) v) f tt f
-  drops_cmp e = rw (concludes_at (op_of r) w (InRegister n) v (op_below r), eq-eqb (op_of r) 7 e) file_pure
-
-  pub keeps : (op_of r ≡ 7 → ⊥) → OnFile Unit (set_reg w n v) f tt g → OnFile Unit (conclude (operation_at (op_of r)) w (InRegister n) v) f tt g
-  unfolding deposit
-  keeps z h = rw (concludes_at (op_of r) w (InRegister n) v (op_below r), ne_eqb (op_of r) 7 z) h
+  pub keeps : (op : Operation) → (op ≡ Cmp → ⊥) → OnFile Unit (set_reg w n v) f tt g → OnFile Unit (conclude op w (InRegister n) v) f tt g
+  unfolding conclude deposit
+  keeps Add z h = h
+  keeps Or z h = h
+  keeps Addc z h = h
+  keeps Subc z h = h
+  keeps And z h = h
+  keeps Sub z h = h
+  keeps Xor z h = h
+  keeps Cmp z h = absurd (z refl)
 
 -- with both operands at hand
 pub settles : (op : Operation) (w : Bool) (s : Spot) (a b : ℕ) (x : Flagged) (f g : List ℕ) → x ≡ flagged (operated op w a b (flag_of (get_or f PSW 0) CY)) (get_or f PSW 0)
@@ -181,9 +147,9 @@ settles op w s a b x f g e h =
     let z : OnFile Result (operate op w a b) f o f = record { at = λ s ram rom tape log. operate_ends op w a b _ } in
     file_seq _ z (file_seq _ (file_affect o f x e) (rw (value_is o f x e) at h))
 
-pub alu_to_is : (r : ℕ) (op : Operation) (w : Bool) (to a b : ℕ) (x : Flagged) (f g : List ℕ) → op ≡ operation_at (op_of r) → a ≡ read_reg w (file_of f) to → x ≡ flagged (operated op w a b (flag_of (get_or f PSW 0) CY)) (get_or f PSW 0)
-    → OnFile Unit (conclude (operation_at (op_of r)) w (InRegister to) x.value) (set f PSW x.psw) tt g → OnFile Unit (settle (operation_at (op_of r)) w (InRegister to) (read_reg w (file_of f) to) b) f tt g
-alu_to_is r op w to a b x f g k p e h = rw (← p) (settles (operation_at (op_of r)) w (InRegister to) a b x f g (rw k at e) h)
+pub alu_to_is : (op : Operation) (w : Bool) (to a b : ℕ) (x : Flagged) (f g : List ℕ) → a ≡ read_reg w (file_of f) to → x ≡ flagged (operated op w a b (flag_of (get_or f PSW 0) CY)) (get_or f PSW 0)
+    → OnFile Unit (conclude op w (InRegister to) x.value) (set f PSW x.psw) tt g → OnFile Unit (settle op w (InRegister to) (read_reg w (file_of f) to) b) f tt g
+alu_to_is op w to a b x f g k e h = rw (← k) (settles op w (InRegister to) a b x f g e h)
 
 two_is : (op : Operation) (w : Bool) (to from b : ℕ) (f g : List ℕ) → b ≡ read_reg w (file_of f) from
     → OnFile Unit (settle op w (InRegister to) (read_reg w (file_of f) to) b) f tt g → OnFile Unit (two op w (Register to) (Held (Register from))) f tt g
@@ -213,10 +179,10 @@ pub branch_if_is : (r d : ℕ) (f g : List ℕ) → d ≡ disp_of r → OnFile U
 branch_if_is r d f g e h = rw (← e) h
 
 module _ (r m n : ℕ) (w : Bool) (f g : List ℕ) where
-  pub alu_rr_is : (b : ℕ) → w ≡ word_of r → n ≡ reg_of r → b ≡ read_reg w (file_of f) n → m ≡ rm_of r
-      → OnFile Unit (settle (operation_at (op_of r)) w (InRegister m) (read_reg w (file_of f) m) b) f tt g
+  pub alu_rr_is : (op : Operation) (b : ℕ) → w ≡ word_of r → n ≡ reg_of r → b ≡ read_reg w (file_of f) n → op ≡ operation_at (op_of r) → m ≡ rm_of r
+      → OnFile Unit (settle op w (InRegister m) (read_reg w (file_of f) m) b) f tt g
       → OnFile Unit (two (operation_at (op_of r)) (word_of r) (Register (rm_of r)) (Held (Register (reg_of r)))) f tt g
-  alu_rr_is b d k q l h = rw (← d, ← k, ← l) (two_is (operation_at (op_of r)) w m n b f g q h)
+  alu_rr_is op b d k q e l h = rw (← d, ← k, ← e, ← l) (two_is op w m n b f g q h)
 
   pub mov_rr_is : (v : ℕ) → w ≡ word_of r → n ≡ reg_of r → v ≡ read_reg w (file_of f) n → m ≡ rm_of r → OnFile Unit (set_reg w m v) f tt g
       → OnFile Unit (mov (word_of r) (Register (rm_of r)) (Held (Register (reg_of r)))) f tt g
@@ -225,9 +191,9 @@ module _ (r m n : ℕ) (w : Bool) (f g : List ℕ) where
   pub mov_ri_is : (v : ℕ) → w ≡ word_of r → m ≡ rm_of r → v ≡ imm_of r → OnFile Unit (set_reg w m v) f tt g → OnFile Unit (mov (word_of r) (Register (rm_of r)) (Immediate (imm_of r))) f tt g
   mov_ri_is v d l e h = rw (← d, ← l, ← e) (mov_imm_is w m v f g h)
 
-  pub alu_ri_is : (b : ℕ) → w ≡ word_of r → b ≡ imm_of r → m ≡ rm_of r → OnFile Unit (settle (operation_at (op_of r)) w (InRegister m) (read_reg w (file_of f) m) b) f tt g
+  pub alu_ri_is : (op : Operation) (b : ℕ) → w ≡ word_of r → op ≡ operation_at (op_of r) → m ≡ rm_of r → b ≡ imm_of r → OnFile Unit (settle op w (InRegister m) (read_reg w (file_of f) m) b) f tt g
       → OnFile Unit (two (operation_at (op_of r)) (word_of r) (Register (rm_of r)) (Immediate (imm_of r))) f tt g
-  alu_ri_is b d q l h = rw (← d, ← q, ← l) (two_imm_is (operation_at (op_of r)) w m b f g h)
+  alu_ri_is op b d e l q h = rw (← d, ← e, ← l, ← q) (two_imm_is op w m b f g h)
 
   pub one_r_is : (op : Unary) (a : ℕ) (x : Flagged) → op ≡ unary_at (op_of r) → w ≡ word_of r → m ≡ rm_of r → a ≡ read_reg w (file_of f) m → x ≡ flagged (unary op w a) (get_or f PSW 0)
       → OnFile Unit (set_reg w m x.value) (set f PSW x.psw) tt g → OnFile Unit (one (unary_at (op_of r)) (word_of r) (Register (rm_of r))) f tt g

@@ -5,11 +5,12 @@ use mathlib.Core.Bool.{Bool, true}
 use mathlib.Core.List.{List}
 use lib.Dec.{lit≤}
 use lib.ListN.{get_or, set}
-use borrow.Author.Tests.{ne_eqb, eq-eqb}
+use native.Mathlib.Omega.{arith}
 use Rattle.sheet.specs.declared.Address.{Address}
 use Rattle.sheet.specs.declared.Bus.{Bus}
 use Rattle.sheet.specs.declared.Flagged.{Flagged}
 use Rattle.sheet.specs.declared.Operation.{Operation}
+use Rattle.sheet.specs.declared.Operation.TheVariants.{Add, Or, Addc, Subc, And, Sub, Xor, Cmp}
 use Rattle.sheet.specs.declared.Place.TheVariants.{Register, Memory}
 use Rattle.sheet.specs.declared.Source.{Source}
 use Rattle.sheet.specs.declared.Source.TheVariants.{Held, Immediate}
@@ -40,11 +41,9 @@ use Rattle.mach_memory.proofs.Laws.{loads}
 use Rattle.mach_stack.proofs.Laws.{push_is, pop_is}
 use Rattle.quick_place.specs.Packed.{op_of, unary_at, word_of, rm_of, reg_of, disp_of, imm_of, address_of}
 use Rattle.mach_tally.specs.Sums.{Free, Costs, Joins}
-use Rattle.quick_tally.specs.Packed.{bus_at}
+use Rattle.mach_tally.specs.Bounds.{Within}
 use Rattle.mach_tally.proofs.Bounds.{within_access, within_memory}
-use Rattle.quick_tally.proofs.Laws.{both_fit}
 use Rattle.quick_do.specs.Settle.{settle}
-use Rattle.quick_do.proofs.Laws.{concludes_at, op_below}
 use Rattle.quick_memory.specs.Settled.{Moved, Operated}
 
 pub located : (a : Address) (f : List ℕ) (g o : ℕ) → g ≡ base_of (file_of f) a → o ≡ offset_of (file_of f) a → OnFile Spot (locate (Memory a)) f (InMemory g o) f
@@ -76,33 +75,33 @@ mov_store : (w : Bool) (s : Source) (a : Address) (f ram ram' rom : List ℕ) (g
 unfolding mov deposit
 mov_store w s a f ram ram' rom g o v n x e q h = memory_free _ x (memory_free _ (located a f g o e q) (h.at f rom))
 
-module _ (r : ℕ) (w : Bool) (f h ram ram' rom : List ℕ) (g o n v : ℕ) (wide : w ≡ word_of r) (at : g ≡ base_of (file_of f) (address_of r)) (off : o ≡ offset_of (file_of f) (address_of r)) where
-  pub load_is : (m : ℕ) → v ≡ read_mem w ram rom g o → v < mod_of w → OnFile Unit (set_reg w m v) f tt h → Costs w o 0 (bus_at n)
-      → OnMemory Unit (mov (word_of r) (Register m) (Held (Memory (address_of r)))) f ram rom tt h ram (bus_at n) 6
+module _ (r : ℕ) (w : Bool) (f h ram ram' rom : List ℕ) (g o v : ℕ) (n : Bus) (wide : w ≡ word_of r) (at : g ≡ base_of (file_of f) (address_of r)) (off : o ≡ offset_of (file_of f) (address_of r)) where
+  pub load_is : (m : ℕ) → v ≡ read_mem w ram rom g o → v < mod_of w → OnFile Unit (set_reg w m v) f tt h → Costs w o 0 n
+      → OnMemory Unit (mov (word_of r) (Register m) (Held (Memory (address_of r)))) f ram rom tt h ram n 6
   load_is m e l y cost =
-      rw (← wide) (memory_at_most {t = 2} 6 (lit≤ tt) (mov_load w m (address_of r) f h ram rom v (bus_at n) (fetched w (address_of r) f ram rom g o v (bus_at n) at off (loads w ram rom g o v (bus_at n) e l cost)) y))
+      rw (← wide) (memory_at_most {t = 2} 6 (lit≤ tt) (mov_load w m (address_of r) f h ram rom v n (fetched w (address_of r) f ram rom g o v n at off (loads w ram rom g o v n e l cost)) y))
 
-  pub mov_to_is : Stores w ram g o v ram' (bus_at n) → Moved r v f ram rom ram' n
-  mov_to_is y = record { from = λ s x. rw (← wide) (memory_at_most {t = 2} 6 (lit≤ tt) (mov_store w s (address_of r) f ram ram' rom g o v (bus_at n) (rw (← wide) at x) at off y)) }
+  pub mov_to_is : Stores w ram g o v ram' n → Moved r v f ram rom ram' n
+  mov_to_is y = record { from = λ s x. rw (← wide) (memory_at_most {t = 2} 6 (lit≤ tt) (mov_store w s (address_of r) f ram ram' rom g o v n (rw (← wide) at x) at off y)) }
 
-module _ (r v : ℕ) (f ram ram' rom : List ℕ) (n : ℕ) (x : Moved r v f ram rom ram' n) where
+module _ (r v : ℕ) (f ram ram' rom : List ℕ) (n : Bus) (x : Moved r v f ram rom ram' n) where
   pub mov_mr_is : (w : Bool) (m : ℕ) → w ≡ word_of r → m ≡ reg_of r → v ≡ read_reg w (file_of f) m
-      → OnMemory Unit (mov (word_of r) (Memory (address_of r)) (Held (Register (reg_of r)))) f ram rom tt f ram' (bus_at n) 6
+      → OnMemory Unit (mov (word_of r) (Memory (address_of r)) (Held (Register (reg_of r)))) f ram rom tt f ram' n 6
   mov_mr_is w m wide reg e = rw (← reg) (x.from (Held (Register m)) (rw (← wide) (held w m v f e)))
 
-  pub store_acc_is : (w : Bool) → w ≡ word_of r → v ≡ read_reg w (file_of f) 0 → OnMemory Unit (store_acc (word_of r) (address_of r)) f ram rom tt f ram' (bus_at n) 6
+  pub store_acc_is : (w : Bool) → w ≡ word_of r → v ≡ read_reg w (file_of f) 0 → OnMemory Unit (store_acc (word_of r) (address_of r)) f ram rom tt f ram' n 6
   unfolding store_acc
   store_acc_is w wide e = x.from (Held (Register 0)) (rw (← wide) (held w 0 v f e))
 
-  pub mov_mi_is : v ≡ imm_of r → OnMemory Unit (mov (word_of r) (Memory (address_of r)) (Immediate (imm_of r))) f ram rom tt f ram' (bus_at n) 6
+  pub mov_mi_is : v ≡ imm_of r → OnMemory Unit (mov (word_of r) (Memory (address_of r)) (Immediate (imm_of r))) f ram rom tt f ram' n 6
   mov_mi_is e = rw (← e) (x.from (Immediate v) (given (word_of r) v f))
 
-module _ (r : ℕ) (f h ram rom : List ℕ) (n : ℕ) where
-  pub mov_rm_is : (m : ℕ) → m ≡ reg_of r → OnMemory Unit (mov (word_of r) (Register m) (Held (Memory (address_of r)))) f ram rom tt h ram (bus_at n) 6
-      → OnMemory Unit (mov (word_of r) (Register (reg_of r)) (Held (Memory (address_of r)))) f ram rom tt h ram (bus_at n) 6
+module _ (r : ℕ) (f h ram rom : List ℕ) (n : Bus) where
+  pub mov_rm_is : (m : ℕ) → m ≡ reg_of r → OnMemory Unit (mov (word_of r) (Register m) (Held (Memory (address_of r)))) f ram rom tt h ram n 6
+      → OnMemory Unit (mov (word_of r) (Register (reg_of r)) (Held (Memory (address_of r)))) f ram rom tt h ram n 6
   mov_rm_is m reg x = rw (← reg) x
 
-  pub load_acc_is : OnMemory Unit (mov (word_of r) (Register 0) (Held (Memory (address_of r)))) f ram rom tt h ram (bus_at n) 6 → OnMemory Unit (load_acc (word_of r) (address_of r)) f ram rom tt h ram (bus_at n) 6
+  pub load_acc_is : OnMemory Unit (mov (word_of r) (Register 0) (Held (Memory (address_of r)))) f ram rom tt h ram n 6 → OnMemory Unit (load_acc (word_of r) (address_of r)) f ram rom tt h ram n 6
   unfolding load_acc
   load_acc_is x = x
 
@@ -127,34 +126,38 @@ alu_store : (op : Operation) (w : Bool) (s : Source) (a : Address) (f h ram ram'
 unfolding two settle fetch
 alu_store op w s a f h ram ram' rom g o x y n k e q l z p = memory_free _ (located a f g o e q) (memory_seq _ {t = 2} {u = 2} (l.at f) (memory_free _ z p))
 
-module _ (r : ℕ) (w : Bool) (f h ram ram' rom : List ℕ) (g o n : ℕ) (wide : w ≡ word_of r) (at : g ≡ base_of (file_of f) (address_of r)) (off : o ≡ offset_of (file_of f) (address_of r))
-    (v : ℕ) (e : v ≡ read_mem w ram rom g o) (l : v < mod_of w) (cost : Costs w o 0 (bus_at n)) where
-  pub alu_rm_is : (m : ℕ) → m ≡ reg_of r → OnFile Unit (settle (operation_at (op_of r)) w (InRegister m) (read_reg w (file_of f) m) v) f tt h
-      → OnMemory Unit (two (operation_at (op_of r)) (word_of r) (Register (reg_of r)) (Held (Memory (address_of r)))) f ram rom tt h ram (bus_at n) 6
-  alu_rm_is m reg y =
-      rw (← wide, ← reg) (memory_at_most {t = 2} 6 (lit≤ tt) (alu_load (operation_at (op_of r)) w m (address_of r) f h ram rom v (bus_at n) (fetched w (address_of r) f ram rom g o v (bus_at n) at off (loads w ram rom g o v (bus_at n) e l cost)) y))
+module _ (r : ℕ) (w : Bool) (f h ram ram' rom : List ℕ) (g o : ℕ) (n : Bus) (wide : w ≡ word_of r) (at : g ≡ base_of (file_of f) (address_of r)) (off : o ≡ offset_of (file_of f) (address_of r))
+    (v : ℕ) (e : v ≡ read_mem w ram rom g o) (l : v < mod_of w) (cost : Costs w o 0 n) where
+  pub alu_rm_is : (op : Operation) (m : ℕ) → op ≡ operation_at (op_of r) → m ≡ reg_of r → OnFile Unit (settle op w (InRegister m) (read_reg w (file_of f) m) v) f tt h
+      → OnMemory Unit (two (operation_at (op_of r)) (word_of r) (Register (reg_of r)) (Held (Memory (address_of r)))) f ram rom tt h ram n 6
+  alu_rm_is op m known reg y =
+      rw (← known, ← wide, ← reg) (memory_at_most {t = 2} 6 (lit≤ tt) (alu_load op w m (address_of r) f h ram rom v n (fetched w (address_of r) f ram rom g o v n at off (loads w ram rom g o v n e l cost)) y))
 
-  pub alu_at_is : (op : Operation) (b k t : ℕ) (x : Flagged) → op ≡ operation_at (op_of r) → x ≡ flagged (operated op w v b (flag_of (get_or f PSW 0) CY)) (get_or f PSW 0)
-      → OnMemory Unit (conclude (operation_at (op_of r)) w (InMemory g o) x.value) (set f PSW x.psw) ram rom tt h ram' (bus_at k) 2 → Joins (bus_at n) (bus_at k) (bus_at t)
+  pub alu_at_is : (op : Operation) (b : ℕ) (k t : Bus) (x : Flagged) → op ≡ operation_at (op_of r) → x ≡ flagged (operated op w v b (flag_of (get_or f PSW 0) CY)) (get_or f PSW 0)
+      → OnMemory Unit (conclude op w (InMemory g o) x.value) (set f PSW x.psw) ram rom tt h ram' k 2 → Joins n k t
       → Operated r b f ram rom h ram' t
   alu_at_is op b k t x known z y j = record {
     from = λ s q.
         rw (← known, ← wide, j.is)
         (memory_at_most {t = 4} 6 (lit≤ tt)
-        (alu_store op w s (address_of r) f h ram ram' rom g o v b (bus_at n) (bus_at k) at off (loads w ram rom g o v (bus_at n) e l cost) (rw (← wide) at q)
-        (settles op w (InMemory g o) v b x f h ram ram' rom (bus_at k) 2 z (rw (← known) at y))));
+        (alu_store op w s (address_of r) f h ram ram' rom g o v b n k at off (loads w ram rom g o v n e l cost) (rw (← wide) at q)
+        (settles op w (InMemory g o) v b x f h ram ram' rom k 2 z y)));
   }
 
-pub access_fits : (w : Bool) (o n k : ℕ) {A : Type 0} {p : Act A} {f ram rom f' ram' : List ℕ} {a : A} → Costs w o 0 (bus_at n) → OnMemory A p f ram rom a f' ram' (bus_at k) 2
-    → (bus_at n).cycles + (bus_at k).cycles + ((bus_at n).dropped + (bus_at k).dropped) ≤ 4294967295
-access_fits w o n k x y = both_fit (bus_at n) (bus_at k) (within_access x) (within_memory y) (lit≤ tt)
+-- what one step comes to fits many times over
+both_fit : {t u : ℕ} (a b : Bus) → Within a t → Within b u → t + u ≤ 1000000000 → a.cycles + b.cycles + (a.dropped + b.dropped) ≤ 4294967295
+both_fit a b x y h = let c = x.cycles in let d = x.dropped in let e = y.cycles in let f = y.dropped in omega arith
 
-module _ (r v : ℕ) (f h ram ram' rom : List ℕ) (n : ℕ) (x : Operated r v f ram rom h ram' n) where
+pub access_fits : (w : Bool) (o : ℕ) (n k : Bus) {A : Type 0} {p : Act A} {f ram rom f' ram' : List ℕ} {a : A} → Costs w o 0 n → OnMemory A p f ram rom a f' ram' k 2
+    → n.cycles + k.cycles + (n.dropped + k.dropped) ≤ 4294967295
+access_fits w o n k x y = both_fit n k (within_access x) (within_memory y) (lit≤ tt)
+
+module _ (r v : ℕ) (f h ram ram' rom : List ℕ) (n : Bus) (x : Operated r v f ram rom h ram' n) where
   pub alu_mr_is : (w : Bool) (m : ℕ) → w ≡ word_of r → m ≡ reg_of r → v ≡ read_reg w (file_of f) m
-      → OnMemory Unit (two (operation_at (op_of r)) (word_of r) (Memory (address_of r)) (Held (Register (reg_of r)))) f ram rom tt h ram' (bus_at n) 6
+      → OnMemory Unit (two (operation_at (op_of r)) (word_of r) (Memory (address_of r)) (Held (Register (reg_of r)))) f ram rom tt h ram' n 6
   alu_mr_is w m wide reg e = rw (← reg) (x.from (Held (Register m)) (rw (← wide) (held w m v f e)))
 
-  pub alu_mi_is : v ≡ imm_of r → OnMemory Unit (two (operation_at (op_of r)) (word_of r) (Memory (address_of r)) (Immediate (imm_of r))) f ram rom tt h ram' (bus_at n) 6
+  pub alu_mi_is : v ≡ imm_of r → OnMemory Unit (two (operation_at (op_of r)) (word_of r) (Memory (address_of r)) (Immediate (imm_of r))) f ram rom tt h ram' n 6
   alu_mi_is e = rw (← e) (x.from (Immediate v) (given (word_of r) v f))
 
 -- flags first, then the value to memory
@@ -169,49 +172,57 @@ unfolding one fetch
 one_store op w a f ram ram' rom g o x y n k e q l z h =
     memory_free _ (located a f g o e q) (memory_seq _ {t = 2} {u = 2} (l.at f) (finish_stores w g o (unary op w x) y f ram ram' rom k z h))
 
-pub one_m_is : (r : ℕ) (op : Unary) (w : Bool) (f ram ram' rom : List ℕ) (g o v n k t : ℕ) (y : Flagged) → op ≡ unary_at (op_of r) → w ≡ word_of r → g ≡ base_of (file_of f) (address_of r) → o ≡ offset_of (file_of f) (address_of r)
-    → v ≡ read_mem w ram rom g o → v < mod_of w → Costs w o 0 (bus_at n) → y ≡ flagged (unary op w v) (get_or f PSW 0) → Stores w ram g o y.value ram' (bus_at k) → Joins (bus_at n) (bus_at k) (bus_at t)
-    → OnMemory Unit (one (unary_at (op_of r)) (word_of r) (Memory (address_of r))) f ram rom tt (set f PSW y.psw) ram' (bus_at t) 6
+pub one_m_is : (r : ℕ) (op : Unary) (w : Bool) (f ram ram' rom : List ℕ) (g o v : ℕ) (n k t : Bus) (y : Flagged) → op ≡ unary_at (op_of r) → w ≡ word_of r → g ≡ base_of (file_of f) (address_of r) → o ≡ offset_of (file_of f) (address_of r)
+    → v ≡ read_mem w ram rom g o → v < mod_of w → Costs w o 0 n → y ≡ flagged (unary op w v) (get_or f PSW 0) → Stores w ram g o y.value ram' k → Joins n k t
+    → OnMemory Unit (one (unary_at (op_of r)) (word_of r) (Memory (address_of r))) f ram rom tt (set f PSW y.psw) ram' t 6
 one_m_is r op w f ram ram' rom g o v n k t y known wide at off e l cost z h j =
     rw (← known, ← wide, j.is)
-    (memory_at_most {t = 4} 6 (lit≤ tt) (one_store op w (address_of r) f ram ram' rom g o v y (bus_at n) (bus_at k) at off (loads w ram rom g o v (bus_at n) e l cost) z h))
+    (memory_at_most {t = 4} 6 (lit≤ tt) (one_store op w (address_of r) f ram ram' rom g o v y n k at off (loads w ram rom g o v n e l cost) z h))
 
-pub store_fits : (w : Bool) (o n k g v : ℕ) (ram ram' : List ℕ) → Costs w o 0 (bus_at n) → Stores w ram g o v ram' (bus_at k) → (bus_at n).cycles + (bus_at k).cycles + ((bus_at n).dropped + (bus_at k).dropped) ≤ 4294967295
+pub store_fits : (w : Bool) (o : ℕ) (n k : Bus) (g v : ℕ) (ram ram' : List ℕ) → Costs w o 0 n → Stores w ram g o v ram' k → n.cycles + k.cycles + (n.dropped + k.dropped) ≤ 4294967295
 store_fits w o n k g v ram ram' x y = access_fits w o n k x (y.at ram ram)
 
-module _ (r : ℕ) (w : Bool) (g o v : ℕ) (f ram rom : List ℕ) where
-  pub drops_cmp : (n : ℕ) → op_of r ≡ 7 → Free (bus_at n) → OnMemory Unit (conclude (operation_at (op_of r)) w (InMemory g o) v) f ram rom tt f ram (bus_at n) 2
-  drops_cmp n e q = rw (q.is, concludes_at (op_of r) w (InMemory g o) v (op_below r), eq-eqb (op_of r) 7 e) (on_memory ram rom 2 file_pure)
+module _ (w : Bool) (g o v : ℕ) (f ram rom : List ℕ) where
+  pub drops_cmp : (op : Operation) (n : Bus) → op ≡ Cmp → Free n → OnMemory Unit (conclude op w (InMemory g o) v) f ram rom tt f ram n 2
+  unfolding conclude
+  drops_cmp op n e q = rw (q.is, e) (on_memory ram rom 2 file_pure)
 
-  pub puts : (ram' : List ℕ) (n : ℕ) → (op_of r ≡ 7 → ⊥) → Stores w ram g o v ram' (bus_at n) → OnMemory Unit (conclude (operation_at (op_of r)) w (InMemory g o) v) f ram rom tt f ram' (bus_at n) 2
-  unfolding deposit
-  puts ram' n z y = rw (concludes_at (op_of r) w (InMemory g o) v (op_below r), ne_eqb (op_of r) 7 z) (y.at f rom)
+  pub puts : (op : Operation) (ram' : List ℕ) (n : Bus) → (op ≡ Cmp → ⊥) → Stores w ram g o v ram' n → OnMemory Unit (conclude op w (InMemory g o) v) f ram rom tt f ram' n 2
+  unfolding conclude deposit
+  puts Add ram' n z y = y.at f rom
+  puts Or ram' n z y = y.at f rom
+  puts Addc ram' n z y = y.at f rom
+  puts Subc ram' n z y = y.at f rom
+  puts And ram' n z y = y.at f rom
+  puts Sub ram' n z y = y.at f rom
+  puts Xor ram' n z y = y.at f rom
+  puts Cmp ram' n z y = absurd (z refl)
 
 -- ---- the stack and branches
 
 module _ (r m : ℕ) (f ram ram' rom : List ℕ) where
-  pub push_r_is : (x ss sp v n : ℕ) → m ≡ rm_of r → x ≡ sub16 (get_or f SP 0) 2 → ss ≡ get_or (set f SP x) SS 0 → sp ≡ get_or (set f SP x) SP 0 → v ≡ read_reg true (file_of (set f SP x)) m
-      → Stores true ram ss sp v ram' (bus_at n) → OnMemory Unit (push_register (rm_of r)) f ram rom tt (set f SP x) ram' (bus_at n) 6
+  pub push_r_is : (x ss sp v : ℕ) (n : Bus) → m ≡ rm_of r → x ≡ sub16 (get_or f SP 0) 2 → ss ≡ get_or (set f SP x) SS 0 → sp ≡ get_or (set f SP x) SP 0 → v ≡ read_reg true (file_of (set f SP x)) m
+      → Stores true ram ss sp v ram' n → OnMemory Unit (push_register (rm_of r)) f ram rom tt (set f SP x) ram' n 6
   unfolding push_register read_reg
   push_r_is x ss sp v n d e q k z y =
       rw (← d) (memory_at_most {t = 2} 6 (lit≤ tt)
       (memory_free _ file_registers (rw (← e) (memory_free _ (file_set SP x) (memory_free _ file_registers (rw (← z, ← q, ← k) (y.at (set f SP x) rom)))))))
 
-  pub pop_r_is : (ss sp next v n : ℕ) (h : List ℕ) → m ≡ rm_of r → sp ≡ get_or f SP 0 → ss ≡ get_or f SS 0 → next ≡ add16 sp 2 → v ≡ read_mem true ram rom ss sp → v < 65536
-      → OnFile Unit (set_reg true m v) (set f SP next) tt h → Costs true sp 0 (bus_at n) → OnMemory Unit (pop_place (Register (rm_of r))) f ram rom tt h ram (bus_at n) 6
+  pub pop_r_is : (ss sp next v : ℕ) (n : Bus) (h : List ℕ) → m ≡ rm_of r → sp ≡ get_or f SP 0 → ss ≡ get_or f SS 0 → next ≡ add16 sp 2 → v ≡ read_mem true ram rom ss sp → v < 65536
+      → OnFile Unit (set_reg true m v) (set f SP next) tt h → Costs true sp 0 n → OnMemory Unit (pop_place (Register (rm_of r))) f ram rom tt h ram n 6
   unfolding pop_place locate deposit
   pop_r_is ss sp next v n h d e q z y b x c =
       rw (← d) (memory_at_most {t = 2} 6 (lit≤ tt)
-      (memory_last _ (pop_is f ram rom v sp ss next (bus_at n) e q z (loads true ram rom ss sp v (bus_at n) y b c)) (file_seq _ file_pure x)))
+      (memory_last _ (pop_is f ram rom v sp ss next n e q z (loads true ram rom ss sp v n y b c)) (file_seq _ file_pure x)))
 
-pub call_is : (r : ℕ) (f h ram ram' rom : List ℕ) (pc ss sp d n : ℕ) → pc ≡ get_or f PC 0 → sp ≡ sub16 (get_or f SP 0) 2 → ss ≡ get_or f SS 0 → Stores true ram ss sp pc ram' (bus_at n) → d ≡ disp_of r
-    → OnFile Unit (jump d) (set f SP sp) tt h → OnMemory Unit (call_near (disp_of r)) f ram rom tt h ram' (bus_at n) 6
+pub call_is : (r : ℕ) (f h ram ram' rom : List ℕ) (pc ss sp d : ℕ) (n : Bus) → pc ≡ get_or f PC 0 → sp ≡ sub16 (get_or f SP 0) 2 → ss ≡ get_or f SS 0 → Stores true ram ss sp pc ram' n → d ≡ disp_of r
+    → OnFile Unit (jump d) (set f SP sp) tt h → OnMemory Unit (call_near (disp_of r)) f ram rom tt h ram' n 6
 unfolding call_near push_pc
 call_is r f h ram ram' rom pc ss sp d n p e q y k x =
-    rw (← k) (memory_at_most {t = 2} 6 (lit≤ tt) (memory_last _ (memory_free _ file_registers (rw (← p) (push_is f ram rom ram' pc sp ss (bus_at n) e q y))) x))
+    rw (← k) (memory_at_most {t = 2} 6 (lit≤ tt) (memory_last _ (memory_free _ file_registers (rw (← p) (push_is f ram rom ram' pc sp ss n e q y))) x))
 
-pub ret_is : (f ram rom : List ℕ) (ss sp next v n : ℕ) → sp ≡ get_or f SP 0 → ss ≡ get_or f SS 0 → next ≡ add16 sp 2 → v ≡ read_mem true ram rom ss sp → v < 65536 → Costs true sp 0 (bus_at n)
-    → OnMemory Unit ret f ram rom tt (set (set f SP next) PC v) ram (bus_at n) 6
+pub ret_is : (f ram rom : List ℕ) (ss sp next v : ℕ) (n : Bus) → sp ≡ get_or f SP 0 → ss ≡ get_or f SS 0 → next ≡ add16 sp 2 → v ≡ read_mem true ram rom ss sp → v < 65536 → Costs true sp 0 n
+    → OnMemory Unit ret f ram rom tt (set (set f SP next) PC v) ram n 6
 unfolding ret pop_into
 ret_is f ram rom ss sp next v n e q z y b c =
-    memory_at_most {t = 2} 6 (lit≤ tt) (memory_last _ (pop_is f ram rom v sp ss next (bus_at n) e q z (loads true ram rom ss sp v (bus_at n) y b c)) (file_set PC v))
+    memory_at_most {t = 2} 6 (lit≤ tt) (memory_last _ (pop_is f ram rom v sp ss next n e q z (loads true ram rom ss sp v n y b c)) (file_set PC v))

@@ -1,9 +1,10 @@
 -- What each return of the code comes to, over plain values.
-use Prim.Native.Nat.{ℕ, ◌%◌}
+use Prim.Native.Nat.{ℕ, ◌%◌, ◌<◌}
 use mathlib.Core.Path.{◌≡◌}
 use mathlib.Core.Bool.{Bool, false}
 use mathlib.Core.List.{[], ◌∷◌}
 use lib.ListN.{get_or}
+use native.Mathlib.Omega.{arith}
 use Rattle.sheet.specs.declared.Address.{Address}
 use Rattle.sheet.specs.declared.Amount.{Amount}
 use Rattle.sheet.specs.declared.Amount.TheVariants.{InCl, Given}
@@ -20,6 +21,7 @@ use Rattle.sheet.specs.declared.Decimal.{Decimal}
 use Rattle.sheet.specs.declared.Decimal.TheVariants.{Add4s, Sub4s, Cmp4s}
 use Rattle.sheet.specs.declared.Instr.{Instr}
 use Rattle.sheet.specs.declared.Instr.TheVariants.{Computes, Multiplies, Blocks, Ports}
+use Rattle.sheet.specs.declared.Io.{Io}
 use Rattle.sheet.specs.declared.Io.TheVariants.{In, Out}
 use Rattle.sheet.specs.declared.Multiply.{Multiply}
 use Rattle.sheet.specs.declared.Multiply.TheVariants.{Mulu, Mul, Divu, Div}
@@ -52,6 +54,10 @@ use Rattle.quick_pack.proofs.KindLaws.{is_1, is_2, is_3, is_4, is_5, is_6, is_7,
 pub known : {I : Type 0} (f : I → Instr) {i j : I} {z r : ℕ} → i ≡ j → Packs (f j) z r → Packs (f i) z r
 known f e h = rw e h
 
+-- a field's number, which needs no more than its three bits
+low_is : {A : Type 0} (f : ℕ → A) (x : A) (o : ℕ) → x ≡ f o → o < 8 → x ≡ f (o % 8)
+low_is f x o e h = let q : o % 8 ≡ o = omega arith in rw q e
+
 -- ---- fields, an address or a place in an instruction
 
 module _ (j : Instr) {k z m g o s d i r : ℕ} {b : Bool} where
@@ -73,7 +79,10 @@ module _ (j : Place → Instr) {p : Place} {k k' z g o i r : ℕ} {b : Bool} whe
 
 -- ---- operations
 
-module _ (op : Operation) (o z r : ℕ) (w : Bool) (op_is : op ≡ operation_at (o % 8)) where
+module _ (op : Operation) (o z r : ℕ) (w : Bool) (named : op ≡ operation_at o) (small : o < 8) where
+  op_is : op ≡ operation_at (o % 8)
+  op_is = low_is operation_at op o named small
+
   pub two_from_register : (to from : Place) (n : ℕ) → from ≡ Register n → Placed to 1 3 z n o w 0 r → Packs (Calculates (Two op w to (Held from))) z r
   two_from_register to from n e h = rw (e, op_is) (placed (λ p. Calculates (Two (operation_at (o % 8)) w p (Held (Register n)))) h (λ m f. is_1 f) (λ m s d f. is_3 f))
 
@@ -86,8 +95,8 @@ module _ (op : Operation) (o z r : ℕ) (w : Bool) (op_is : op ≡ operation_at 
 pub two_held : (op : Operation) (w : Bool) (to p : Place) (from : Source) (z r : ℕ) → from ≡ Held p → Packs (Calculates (Two op w to (Held p))) z r → Packs (Calculates (Two op w to from)) z r
 two_held op w to p from z r e h = rw e h
 
-pub one_operand : (op : Unary) (o z r : ℕ) (w : Bool) (to : Place) → op ≡ unary_at (o % 8) → Placed to 19 20 z 0 o w 0 r → Packs (Calculates (One op w to)) z r
-one_operand op o z r w to e h = rw e (placed (λ p. Calculates (One (unary_at (o % 8)) w p)) h (λ m f. is_19 f) (λ m s d f. is_20 f))
+pub one_operand : (op : Unary) (o z r : ℕ) (w : Bool) (to : Place) → op ≡ unary_at o → o < 8 → Placed to 19 20 z 0 o w 0 r → Packs (Calculates (One op w to)) z r
+one_operand op o z r w to e l h = rw (low_is unary_at op o e l) (placed (λ p. Calculates (One (unary_at (o % 8)) w p)) h (λ m f. is_19 f) (λ m s d f. is_20 f))
 
 module _ (w : Bool) (left z r : ℕ) (right : Source) where
   pub test_registers : (p : Place) (n : ℕ) → right ≡ Held p → p ≡ Register n → Joined 28 z left n 0 0 w 0 0 r → Packs (Calculates (Test w (Register left) right)) z r
@@ -100,11 +109,14 @@ pub test_register : (i : Arithmetic) (w : Bool) (left : Place) (right : Source) 
     → Packs (Calculates i) z r
 test_register i w left right n z r e q h = rw (e, q) h
 
-pub shift_one : (i : Compute) (k : Shift) (o z r : ℕ) (w : Bool) (to : Place) (n : Places) → i ≡ compute.Shifts k w to n → n ≡ places.One → k ≡ shift_at (o % 8) → Placed to 24 25 z 0 o w 0 r
+pub shift_one : (i : Compute) (k : Shift) (o z r : ℕ) (w : Bool) (to : Place) (n : Places) → i ≡ compute.Shifts k w to n → n ≡ places.One → k ≡ shift_at o → o < 8 → Placed to 24 25 z 0 o w 0 r
     → Packs (Computes i) z r
-shift_one i k o z r w to n e q l h = rw (e, q, l) (placed (λ p. Shifts (shift_at (o % 8)) w p places.One) h (λ m f. is_24 f) (λ m s d f. is_25 f))
+shift_one i k o z r w to n e q l m h = rw (e, q, low_is shift_at k o l m) (placed (λ p. Shifts (shift_at (o % 8)) w p places.One) h (λ m f. is_24 f) (λ m s d f. is_25 f))
 
-module _ (k : Shift) (o z r : ℕ) (w : Bool) (to : Place) (a : Amount) (kind_is : k ≡ shift_at (o % 8)) where
+module _ (k : Shift) (o z r : ℕ) (w : Bool) (to : Place) (a : Amount) (named : k ≡ shift_at o) (small : o < 8) where
+  kind_is : k ≡ shift_at (o % 8)
+  kind_is = low_is shift_at k o named small
+
   counted : (g i : ℕ) → a ≡ amount_at g i → Placed to 37 38 z g o w i r → Packs (Shifts k w to (places.Counted a)) z r
   counted g i e h = rw (kind_is, e) (placed (λ p. Shifts (shift_at (o % 8)) w p (places.Counted (amount_at g i))) h (λ m f. is_37 f) (λ m s d f. is_38 f))
 
@@ -112,9 +124,9 @@ module _ (k : Shift) (o z r : ℕ) (w : Bool) (to : Place) (a : Amount) (kind_is
   unfolding amount_at
   by_cl e h = counted 1 0 e h
 
-  pub by_given : (n v : ℕ) → a ≡ Given n → v % 256 ≡ n → Placed to 37 38 z 0 o w v r → Packs (Shifts k w to (places.Counted a)) z r
+  pub by_given : (n v : ℕ) → a ≡ Given n → n < 256 → v ≡ n → Placed to 37 38 z 0 o w v r → Packs (Shifts k w to (places.Counted a)) z r
   unfolding amount_at
-  by_given n v e q h = counted 0 v (rw q e) h
+  by_given n v e l q h = let m : v % 256 ≡ n = omega arith in counted 0 v (rw m e) h
 
 pub shift_counted : (i : Compute) (k : Shift) (w : Bool) (to : Place) (n : Places) (a : Amount) (z r : ℕ) → i ≡ compute.Shifts k w to n → n ≡ places.Counted a → Packs (Shifts k w to (places.Counted a)) z r
     → Packs (Computes i) z r
@@ -195,17 +207,22 @@ module _ (z r : ℕ) where
 -- ---- blocks, decimal strings, conversions, products and quotients
 
 module _ (z r o g : ℕ) where
-  pub block_is : (p : Primitive) (w : Bool) (seg : ℕ) (q : Repeat) → p ≡ get_or (Movbk ∷ Cmpbk ∷ Cmpm ∷ Ldm ∷ Stm ∷ []) (o % 8) Movbk → q ≡ repeat_at g → Joined 32 z 0 g o seg w 0 0 r
-      → Packs (Blocks p w seg q) z r
+  pub block_is : (w : Bool) (seg : ℕ) (q : Repeat) → q ≡ repeat_at g → Joined 32 z 0 g o seg w 0 0 r → Packs (Blocks (primitive_at (o % 8)) w seg q) z r
+  block_is w seg q l h = rw l (packed (Blocks (primitive_at (o % 8)) w seg (repeat_at g)) h is_32)
+
+  pub block_of : (p : Primitive) (w : Bool) (seg : ℕ) (q : Repeat) → p ≡ get_or (Movbk ∷ Cmpbk ∷ Cmpm ∷ Ldm ∷ Stm ∷ []) (o % 8) Movbk → Packs (Blocks (primitive_at (o % 8)) w seg q) z r → Packs (Blocks p w seg q) z r
   unfolding primitive_at
-  block_is p w seg q e l h = rw (e, l) (packed (Blocks (primitive_at (o % 8)) w seg (repeat_at g)) h is_32)
+  block_of p w seg q e h = rw e h
 
-  pub string_is : (i : Decimal) (seg : ℕ) → i ≡ get_or (Add4s seg ∷ Sub4s seg ∷ Cmp4s seg ∷ []) (o % 8) (Add4s seg) → Joined 33 z 0 0 o seg false 0 0 r → Packs (Decimals i) z r
+  pub string_is : (seg : ℕ) → Joined 33 z 0 0 o seg false 0 0 r → Packs (Decimals (string_at (o % 8) seg)) z r
+  string_is seg h = packed (Decimals (string_at (o % 8) seg)) h is_33
+
+  pub string_of : (i : Decimal) (seg : ℕ) → i ≡ get_or (Add4s seg ∷ Sub4s seg ∷ Cmp4s seg ∷ []) (o % 8) (Add4s seg) → Packs (Decimals (string_at (o % 8) seg)) z r → Packs (Decimals i) z r
   unfolding string_at
-  string_is i seg e h = rw e (packed (Decimals (string_at (o % 8) seg)) h is_33)
+  string_of i seg e h = rw e h
 
-  pub convert_is : (i : Convert) → i ≡ convert_at (o % 8) → Joined 34 z 0 0 o 0 false 0 0 r → Packs (Converts i) z r
-  convert_is i e h = rw e (packed (Converts (convert_at (o % 8))) h is_34)
+  pub convert_is : (i : Convert) → i ≡ convert_at o → o < 8 → Joined 34 z 0 0 o 0 false 0 0 r → Packs (Converts i) z r
+  convert_is i e l h = rw (low_is convert_at i o e l) (packed (Converts (convert_at (o % 8))) h is_34)
 
 module _ (z r o : ℕ) (w : Bool) (by : Place) where
   pub product_is : (n : ℕ) → by ≡ Register n → Joined 35 z n 0 o 0 w 0 0 r → Packs (Multiplies (product_at (o % 8) w by)) z r
@@ -217,22 +234,12 @@ module _ (z r o : ℕ) (w : Bool) (by : Place) where
 
 -- ---- ports
 
-module _ (z r : ℕ) (w : Bool) (p : Port) where
-  pub in_dw : p ≡ InDw → Joined 48 z 0 0 0 0 w 0 0 r → Packs (Ports (In w p)) z r
-  unfolding port_at
-  in_dw e h = rw e (packed (Ports (In w InDw)) h is_48)
+module _ (i : Io) (z r m d : ℕ) (w : Bool) (p : Port) (port : p ≡ port_at m d) where
+  pub in_is : i ≡ In w p → Joined 48 z m 0 0 0 w d 0 r → Packs (Ports i) z r
+  in_is e h = rw (e, port) (packed (Ports (In w (port_at m d))) h is_48)
 
-  pub in_numbered : (n : ℕ) → p ≡ Numbered n → Joined 48 z 8 0 0 0 w n 0 r → Packs (Ports (In w p)) z r
-  unfolding port_at
-  in_numbered n e h = rw e (packed (Ports (In w (Numbered n))) h is_48)
-
-  pub out_dw : p ≡ InDw → Joined 49 z 0 0 0 0 w 0 0 r → Packs (Ports (Out w p)) z r
-  unfolding port_at
-  out_dw e h = rw e (packed (Ports (Out w InDw)) h is_49)
-
-  pub out_numbered : (n : ℕ) → p ≡ Numbered n → Joined 49 z 8 0 0 0 w n 0 r → Packs (Ports (Out w p)) z r
-  unfolding port_at
-  out_numbered n e h = rw e (packed (Ports (Out w (Numbered n))) h is_49)
+  pub out_is : i ≡ Out w p → Joined 49 z m 0 0 0 w d 0 r → Packs (Ports i) z r
+  out_is e h = rw (e, port) (packed (Ports (Out w (port_at m d))) h is_49)
 
 module _ (z r seg : ℕ) (w : Bool) (q : Repeat) where
   pub stream_is : (o : ℕ) → q ≡ WhileZ → Joined 50 z 0 0 o seg w 0 0 r → Packs (Blocks (stream_at (o % 8)) w seg q) z r

@@ -25,8 +25,8 @@ use Rattle.sheet.specs.FirstByte.{operation_at}
 use Rattle.quick_place.specs.Packed.{kind_of, size_of, rm_of, reg_of, op_of, unary_at, shift_at, convert_at, string_at, product_at, primitive_at, repeat_at, cond_of, seg_of, word_of, disp_of, imm_of, address_of}
 
 -- an operation on two registers, on a register and memory, on memory and a register; MOV of the same three, and of an immediate; PUSH, POP, branches
-unfoldable pub readings : ℕ → List Instr
-readings r =
+unfoldable pub readings_0 : ℕ → List Instr
+readings_0 r =
     Controls Nop
     ∷ Calculates (Two (operation_at (op_of r)) (word_of r) (Register (rm_of r)) (Held (Register (reg_of r))))
     ∷ Calculates (Two (operation_at (op_of r)) (word_of r) (Register (reg_of r)) (Held (Memory (address_of r))))
@@ -43,8 +43,8 @@ readings r =
     ∷ []
 
 -- from 16 on: an operation on a register, on memory and an immediate; MOV of memory and an immediate; one operand; branches; shifts by 1; MOV with AW or AL; TEST
-unfoldable pub further : ℕ → List Instr
-further r =
+unfoldable pub readings_16 : ℕ → List Instr
+readings_16 r =
     Calculates (Two (operation_at (op_of r)) (word_of r) (Register (rm_of r)) (Immediate (imm_of r)))
     ∷ Calculates (Two (operation_at (op_of r)) (word_of r) (Memory (address_of r)) (Immediate (imm_of r)))
     ∷ Transfers (Mov (word_of r) (Memory (address_of r)) (Immediate (imm_of r)))
@@ -66,8 +66,8 @@ unfoldable pub amount_at : ℕ → ℕ → Amount
 amount_at g v = pick (eqb g 1) InCl (Given (v % 256))
 
 -- from 32 on: a block's primitive, single or repeated; decimal strings; conversions; products and quotients with a register; BCWZ; shifts by a count; LDEA, XCH, MOV from a segment register; BR far, the other loops
-unfoldable pub rest : ℕ → List Instr
-rest r =
+unfoldable pub readings_32 : ℕ → List Instr
+readings_32 r =
     Blocks (primitive_at (op_of r)) (word_of r) (seg_of r) (repeat_at (reg_of r))
     ∷ Decimals (string_at (op_of r) (seg_of r))
     ∷ Converts (convert_at (op_of r))
@@ -91,8 +91,8 @@ unfoldable pub stream_at : ℕ → Primitive
 stream_at o = pick (eqb o 0) Inm Outm
 
 -- from 48 on, at a port: IN, OUT, and INM or OUTM after the prefix F3
-unfoldable pub port_readings : ℕ → List Instr
-port_readings r =
+unfoldable pub readings_48 : ℕ → List Instr
+readings_48 r =
     Ports (In (word_of r) (port_at (rm_of r) (disp_of r)))
     ∷ Ports (Out (word_of r) (port_at (rm_of r) (disp_of r)))
     ∷ Blocks (stream_at (op_of r)) (word_of r) (seg_of r) WhileZ
@@ -102,7 +102,7 @@ abbrev pub at_port : ℕ → Bool
 at_port r = leb 48 (kind_of r) && leb (kind_of r) 50
 
 abbrev pub groups : ℕ → List (List Instr)
-groups r = readings r ∷ further r ∷ rest r ∷ port_readings r ∷ []
+groups r = readings_0 r ∷ readings_16 r ∷ readings_32 r ∷ readings_48 r ∷ []
 
 unfoldable pub instr_of : ℕ → Instr
 instr_of r = get_or (get_or (groups r) (kind_of r / 16) []) (kind_of r % 16) (Controls Nop)

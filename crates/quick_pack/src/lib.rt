@@ -8,185 +8,175 @@ ghost use Rattle.sheet.specs.declared.Place.TheVariants.{Register};
 ghost use Rattle.sheet.specs.declared.Places.TheVariants.{Counted};
 ghost use Rattle.sheet.specs.declared.Source.TheVariants.{Held};
 ghost use Rattle.sheet.specs.declared.Transfer.TheVariants.{Mov};
-ghost use Rattle.sheet.specs.declared.Io.TheVariants.{In, Out};
 ghost use Rattle.sheet.specs.Groups.{Transfers, Calculates, Converts, Shifts, Decimals, Stacks, Branches, Tests};
-ghost use Rattle.sheet.specs.FirstByte.{operation_at};
-ghost use Rattle.quick_place.specs.Packed.{unary_at, shift_at, convert_at, product_at, repeat_at};
-ghost use Rattle.quick_pack.specs.Readings.{stream_at, at_port, Packs};
+ghost use Rattle.quick_place.specs.Packed.{product_at, primitive_at, string_at};
+ghost use Rattle.quick_pack.specs.Readings.{stream_at, port_at, at_port, Packs};
 
+use quick_place::{Field, Fields, Kind, NO_FORM, Reading};
 use sheet::{
     Amount, Arithmetic, Branch, Compute, Conditional, Convert, Decimal, Instr, Io, Move, Multiply,
     Operation, Place, Places, Port, Primitive, Repeat, Shift, Source, Stack, Transfer, Unary,
 };
 
-// ---- the field of the operation
+// Each packs an instruction of so many bytes, or gives no reading.
 
-fn number(op: Operation) -> u8
-    ensures { op ≡ operation_at (result % 8) }
+fn two_held(op: Operation, word: bool, to: Place, from: Place, size: u16) -> Reading
+    ensures { Packs (Calculates (Two op word to (Held from))) size result.bits }
 {
-    match op {
-        Operation::Add => 0,
-        Operation::Or => 1,
-        Operation::Addc => 2,
-        Operation::Subc => 3,
-        Operation::And => 4,
-        Operation::Sub => 5,
-        Operation::Xor => 6,
-        Operation::Cmp => 7,
-    }
-}
-
-fn unary_number(op: Unary) -> u8
-    ensures { op ≡ unary_at (result % 8) }
-{
-    match op {
-        Unary::Inc => 0,
-        Unary::Dec => 1,
-        Unary::Not => 2,
-        Unary::Neg => 3,
-    }
-}
-
-fn shift_number(kind: Shift) -> u8
-    ensures { kind ≡ shift_at (result % 8) }
-{
-    match kind {
-        Shift::Rol => 0,
-        Shift::Ror => 1,
-        Shift::Rolc => 2,
-        Shift::Rorc => 3,
-        Shift::Shl => 4,
-        Shift::Shr => 5,
-        Shift::Shra => 6,
-    }
-}
-
-fn convert_number(i: Convert) -> u8
-    ensures { i ≡ convert_at (result % 8) }
-{
-    match i {
-        Convert::Adjba => 0,
-        Convert::Adj4a => 1,
-        Convert::Adjbs => 2,
-        Convert::Adj4s => 3,
-        Convert::Cvtbd => 4,
-        Convert::Cvtdb => 5,
-        Convert::Cvtbw => 6,
-        Convert::Cvtwl => 7,
-    }
-}
-
-fn repeat_number(q: Repeat) -> u8
-    ensures { q ≡ repeat_at result }
-{
-    match q {
-        Repeat::Once => 0,
-        Repeat::WhileZ => 1,
-        Repeat::WhileNotZ => 2,
-        Repeat::WhileCy => 3,
-        Repeat::WhileNotCy => 4,
-    }
-}
-
-// ---- the groups: an instruction of so many bytes, packed, or 0
-
-fn two_held(op: Operation, word: bool, to: Place, from: Place, size: u16) -> u64
-    ensures { Packs (Calculates (Two op word to (Held from))) size result }
-{
-    let o = number(op);
     match from {
-        Place::Register(n) => quick_place::place(to, 1, 3, size, n, o, word, 0),
+        Place::Register(reg) => Fields {
+            size,
+            reg,
+            op: op.number(),
+            word,
+            ..Fields::NONE
+        }
+        .at_place(to, Kind::AluRegReg, Kind::AluMemReg),
         Place::Memory(a) => match to {
-            Place::Register(n) => quick_place::address(a, 2, size, n, o, word, 0),
-            Place::Memory(b) => 0,
+            Place::Register(reg) => Fields {
+                kind: Kind::AluRegMem,
+                size,
+                reg,
+                op: op.number(),
+                word,
+                ..Fields::NONE
+            }
+            .at_address(a),
+            Place::Memory(_) => Reading::NONE,
         },
     }
 }
 
-fn two(op: Operation, word: bool, to: Place, from: Source, size: u16) -> u64
-    ensures { Packs (Calculates (Two op word to from)) size result }
+fn two(op: Operation, word: bool, to: Place, from: Source, size: u16) -> Reading
+    ensures { Packs (Calculates (Two op word to from)) size result.bits }
 {
     match from {
         Source::Held(p) => two_held(op, word, to, p, size),
-        Source::Immediate(v) => {
-            let o = number(op);
-            quick_place::place(to, 16, 17, size, 0, o, word, v)
+        Source::Immediate(imm) => Fields {
+            size,
+            op: op.number(),
+            word,
+            imm,
+            ..Fields::NONE
         }
+        .at_place(to, Kind::AluRegImm, Kind::AluMemImm),
     }
 }
 
-fn one(op: Unary, word: bool, to: Place, size: u16) -> u64
-    ensures { Packs (Calculates (One op word to)) size result }
+fn one(op: Unary, word: bool, to: Place, size: u16) -> Reading
+    ensures { Packs (Calculates (One op word to)) size result.bits }
 {
-    let o = unary_number(op);
-    quick_place::place(to, 19, 20, size, 0, o, word, 0)
+    Fields {
+        size,
+        op: op.number(),
+        word,
+        ..Fields::NONE
+    }
+    .at_place(to, Kind::UnaryReg, Kind::UnaryMem)
 }
 
-fn test_register(word: bool, left: u8, right: Source, size: u16) -> u64
-    ensures { Packs (Calculates (Test word (Register left) right)) size result }
+fn test_register(word: bool, left: u8, right: Source, size: u16) -> Reading
+    ensures { Packs (Calculates (Test word (Register left) right)) size result.bits }
 {
     match right {
         Source::Held(p) => match p {
-            Place::Register(n) => quick_place::join(28, size, left, n, 0, 0, word, 0, 0),
-            Place::Memory(a) => 0,
+            Place::Register(reg) => Fields {
+                kind: Kind::TestRegReg,
+                size,
+                rm: left,
+                reg,
+                word,
+                ..Fields::NONE
+            }
+            .packed(),
+            Place::Memory(_) => Reading::NONE,
         },
-        Source::Immediate(v) => quick_place::join(29, size, left, 0, 0, 0, word, 0, v),
+        Source::Immediate(imm) => Fields {
+            kind: Kind::TestRegImm,
+            size,
+            rm: left,
+            word,
+            imm,
+            ..Fields::NONE
+        }
+        .packed(),
     }
 }
 
-fn calculate(i: Arithmetic, size: u16) -> u64
-    ensures { Packs (Calculates i) size result }
+fn calculate(i: Arithmetic, size: u16) -> Reading
+    ensures { Packs (Calculates i) size result.bits }
 {
     match i {
         Arithmetic::Two { op, word, to, from } => two(op, word, to, from, size),
         Arithmetic::One { op, word, to } => one(op, word, to, size),
         Arithmetic::Test { word, left, right } => match left {
             Place::Register(n) => test_register(word, n, right, size),
-            Place::Memory(a) => 0,
+            Place::Memory(_) => Reading::NONE,
         },
     }
 }
 
-fn count(n: u8) -> u16
-    ensures { result % 256 ≡ n }
+fn shift_by(kind: Shift, word: bool, to: Place, amount: Amount, size: u16) -> Reading
+    ensures { Packs (Shifts kind word to (Counted amount)) size result.bits }
 {
-    n as u16
-}
-
-fn shift_by(kind: Shift, word: bool, to: Place, amount: Amount, size: u16) -> u64
-    ensures { Packs (Shifts kind word to (Counted amount)) size result }
-{
-    let o = shift_number(kind);
     match amount {
-        Amount::InCl => quick_place::place(to, 37, 38, size, 1, o, word, 0),
-        Amount::Given(n) => {
-            let v = count(n);
-            quick_place::place(to, 37, 38, size, 0, o, word, v)
+        Amount::InCl => Fields {
+            size,
+            reg: 1,
+            op: kind.number(),
+            word,
+            ..Fields::NONE
         }
+        .at_place(to, Kind::ShiftRegCounted, Kind::ShiftMemCounted),
+        Amount::Given(n) => Fields {
+            size,
+            op: kind.number(),
+            word,
+            imm: u16::from(n),
+            ..Fields::NONE
+        }
+        .at_place(to, Kind::ShiftRegCounted, Kind::ShiftMemCounted),
     }
 }
 
-fn decimal(i: Decimal, size: u16) -> u64
-    ensures { Packs (Decimals i) size result }
+fn string(op: u8, seg: u8, size: u16) -> Reading
+    ensures { Packs (Decimals (string_at (op % 8) seg)) size result.bits }
+{
+    Fields {
+        kind: Kind::DecimalString,
+        size,
+        op,
+        seg,
+        ..Fields::NONE
+    }
+    .packed()
+}
+
+fn decimal(i: Decimal, size: u16) -> Reading
+    ensures { Packs (Decimals i) size result.bits }
 {
     match i {
-        Decimal::Add4s { seg } => quick_place::join(33, size, 0, 0, 0, seg, false, 0, 0),
-        Decimal::Sub4s { seg } => quick_place::join(33, size, 0, 0, 1, seg, false, 0, 0),
-        Decimal::Cmp4s { seg } => quick_place::join(33, size, 0, 0, 2, seg, false, 0, 0),
-        Decimal::Rol4 { to } => 0,
-        Decimal::Ror4 { to } => 0,
+        Decimal::Add4s { seg } => string(0, seg, size),
+        Decimal::Sub4s { seg } => string(1, seg, size),
+        Decimal::Cmp4s { seg } => string(2, seg, size),
+        _ => Reading::NONE,
     }
 }
 
-fn convert(i: Convert, size: u16) -> u64
-    ensures { Packs (Converts i) size result }
+fn convert(i: Convert, size: u16) -> Reading
+    ensures { Packs (Converts i) size result.bits }
 {
-    let o = convert_number(i);
-    quick_place::join(34, size, 0, 0, o, 0, false, 0, 0)
+    Fields {
+        kind: Kind::Convert,
+        size,
+        op: i.number(),
+        ..Fields::NONE
+    }
+    .packed()
 }
 
-fn compute(i: Compute, size: u16) -> u64
-    ensures { Packs (Computes i) size result }
+fn compute(i: Compute, size: u16) -> Reading
+    ensures { Packs (Computes i) size result.bits }
 {
     match i {
         Compute::Calculates(group) => calculate(group, size),
@@ -197,109 +187,231 @@ fn compute(i: Compute, size: u16) -> u64
             to,
             places,
         } => match places {
-            Places::One => {
-                let o = shift_number(kind);
-                quick_place::place(to, 24, 25, size, 0, o, word, 0)
+            Places::One => Fields {
+                size,
+                op: kind.number(),
+                word,
+                ..Fields::NONE
             }
+            .at_place(to, Kind::ShiftRegOne, Kind::ShiftMemOne),
             Places::Counted(amount) => shift_by(kind, word, to, amount, size),
         },
-        Compute::Bits {
-            op,
-            word,
-            to,
-            number,
-        } => 0,
         Compute::Decimals(group) => decimal(group, size),
-        Compute::Fields(group) => 0,
+        _ => Reading::NONE,
     }
 }
 
-fn mov_held(word: bool, to: Place, from: Place, size: u16) -> u64
-    ensures { Packs (Transfers (Mov word to (Held from))) size result }
+fn mov_held(word: bool, to: Place, from: Place, size: u16) -> Reading
+    ensures { Packs (Transfers (Mov word to (Held from))) size result.bits }
 {
     match from {
-        Place::Register(n) => quick_place::place(to, 4, 6, size, n, 0, word, 0),
+        Place::Register(reg) => Fields {
+            size,
+            reg,
+            word,
+            ..Fields::NONE
+        }
+        .at_place(to, Kind::MovRegReg, Kind::MovMemReg),
         Place::Memory(a) => match to {
-            Place::Register(n) => quick_place::address(a, 5, size, n, 0, word, 0),
-            Place::Memory(b) => 0,
+            Place::Register(reg) => Fields {
+                kind: Kind::MovRegMem,
+                size,
+                reg,
+                word,
+                ..Fields::NONE
+            }
+            .at_address(a),
+            Place::Memory(_) => Reading::NONE,
         },
     }
 }
 
-fn mov(word: bool, to: Place, from: Source, size: u16) -> u64
-    ensures { Packs (Transfers (Mov word to from)) size result }
+fn mov(word: bool, to: Place, from: Source, size: u16) -> Reading
+    ensures { Packs (Transfers (Mov word to from)) size result.bits }
 {
     match from {
         Source::Held(p) => mov_held(word, to, p, size),
-        Source::Immediate(v) => quick_place::place(to, 7, 18, size, 0, 0, word, v),
+        Source::Immediate(imm) => Fields {
+            size,
+            word,
+            imm,
+            ..Fields::NONE
+        }
+        .at_place(to, Kind::MovRegImm, Kind::MovMemImm),
     }
 }
 
-fn transfer(i: Transfer, size: u16) -> u64
-    ensures { Packs (Transfers i) size result }
+fn transfer(i: Transfer, size: u16) -> Reading
+    ensures { Packs (Transfers i) size result.bits }
 {
     match i {
         Transfer::Mov { word, to, from } => mov(word, to, from, size),
-        Transfer::LoadAcc { word, from } => quick_place::address(from, 26, size, 0, 0, word, 0),
-        Transfer::StoreAcc { word, to } => quick_place::address(to, 27, size, 0, 0, word, 0),
+        Transfer::LoadAcc { word, from } => Fields {
+            kind: Kind::LoadAcc,
+            size,
+            word,
+            ..Fields::NONE
+        }
+        .at_address(from),
+        Transfer::StoreAcc { word, to } => Fields {
+            kind: Kind::StoreAcc,
+            size,
+            word,
+            ..Fields::NONE
+        }
+        .at_address(to),
         Transfer::FromSegment { to, seg } => match to {
-            Place::Register(n) => quick_place::join(41, size, n, 0, 0, seg, false, 0, 0),
-            Place::Memory(a) => 0,
+            Place::Register(rm) => Fields {
+                kind: Kind::MovRegSegment,
+                size,
+                rm,
+                seg,
+                ..Fields::NONE
+            }
+            .packed(),
+            Place::Memory(_) => Reading::NONE,
         },
-        Transfer::Ldea { reg, from } => quick_place::address(from, 39, size, reg, 0, false, 0),
+        Transfer::Ldea { reg, from } => Fields {
+            kind: Kind::Ldea,
+            size,
+            reg,
+            ..Fields::NONE
+        }
+        .at_address(from),
         Transfer::Xch { word, reg, with } => match with {
-            Place::Register(n) => quick_place::join(40, size, n, reg, 0, 0, word, 0, 0),
-            Place::Memory(a) => 0,
+            Place::Register(rm) => Fields {
+                kind: Kind::XchRegReg,
+                size,
+                rm,
+                reg,
+                word,
+                ..Fields::NONE
+            }
+            .packed(),
+            Place::Memory(_) => Reading::NONE,
         },
-        _ => 0,
+        _ => Reading::NONE,
     }
 }
 
-fn stack(i: Stack, size: u16) -> u64
-    ensures { Packs (Stacks i) size result }
+fn stack(i: Stack, size: u16) -> Reading
+    ensures { Packs (Stacks i) size result.bits }
 {
     match i {
         Stack::Push { from } => match from {
-            Place::Register(n) => quick_place::join(8, size, n, 0, 0, 0, false, 0, 0),
-            Place::Memory(a) => 0,
+            Place::Register(pushed) => Fields {
+                kind: Kind::PushReg,
+                size,
+                rm: pushed,
+                ..Fields::NONE
+            }
+            .packed(),
+            Place::Memory(_) => Reading::NONE,
         },
         Stack::Pop { to } => match to {
-            Place::Register(n) => quick_place::join(9, size, n, 0, 0, 0, false, 0, 0),
-            Place::Memory(a) => 0,
+            Place::Register(rm) => Fields {
+                kind: Kind::PopReg,
+                size,
+                rm,
+                ..Fields::NONE
+            }
+            .packed(),
+            Place::Memory(_) => Reading::NONE,
         },
-        _ => 0,
+        _ => Reading::NONE,
     }
 }
 
-fn branch(i: Branch, size: u16) -> u64
-    ensures { Packs (Branches i) size result }
+fn branch(i: Branch, size: u16) -> Reading
+    ensures { Packs (Branches i) size result.bits }
 {
     match i {
-        Branch::CallNear { disp } => quick_place::join(11, size, 0, 0, 0, 0, false, disp, 0),
-        Branch::Ret => quick_place::join(12, size, 0, 0, 0, 0, false, 0, 0),
-        Branch::BrNear { disp } => quick_place::join(21, size, 0, 0, 0, 0, false, disp, 0),
-        Branch::BrShort { disp } => quick_place::join(22, size, 0, 0, 0, 0, false, disp, 0),
-        Branch::BrFar { ps, pc } => quick_place::join(42, size, 0, 0, 0, 0, false, pc, ps),
-        _ => 0,
+        Branch::CallNear { disp } => Fields {
+            kind: Kind::CallNear,
+            size,
+            disp,
+            ..Fields::NONE
+        }
+        .packed(),
+        Branch::Ret => Fields {
+            kind: Kind::Ret,
+            size,
+            ..Fields::NONE
+        }
+        .packed(),
+        Branch::BrNear { disp } => Fields {
+            kind: Kind::BrNear,
+            size,
+            disp,
+            ..Fields::NONE
+        }
+        .packed(),
+        Branch::BrShort { disp } => Fields {
+            kind: Kind::BrShort,
+            size,
+            disp,
+            ..Fields::NONE
+        }
+        .packed(),
+        Branch::BrFar { ps, pc } => Fields {
+            kind: Kind::BrFar,
+            size,
+            disp: pc,
+            imm: ps,
+            ..Fields::NONE
+        }
+        .packed(),
+        _ => Reading::NONE,
     }
 }
 
-fn conditional(i: Conditional, size: u16) -> u64
-    ensures { Packs (Tests i) size result }
+fn conditional(i: Conditional, size: u16) -> Reading
+    ensures { Packs (Tests i) size result.bits }
 {
     match i {
         Conditional::If { condition, disp } => {
-            quick_place::join(10, size, 0, 0, condition, 0, false, disp, 0)
+            Fields {
+                kind: Kind::BranchIf,
+                size,
+                op: condition,
+                disp,
+                ..Fields::NONE
+            }
+            .packed()
         }
-        Conditional::Dbnzne { disp } => quick_place::join(43, size, 0, 0, 0, 0, false, disp, 0),
-        Conditional::Dbnze { disp } => quick_place::join(44, size, 0, 0, 0, 0, false, disp, 0),
-        Conditional::Dbnz { disp } => quick_place::join(23, size, 0, 0, 0, 0, false, disp, 0),
-        Conditional::Bcwz { disp } => quick_place::join(36, size, 0, 0, 0, 0, false, disp, 0),
+        Conditional::Dbnzne { disp } => Fields {
+            kind: Kind::Dbnzne,
+            size,
+            disp,
+            ..Fields::NONE
+        }
+        .packed(),
+        Conditional::Dbnze { disp } => Fields {
+            kind: Kind::Dbnze,
+            size,
+            disp,
+            ..Fields::NONE
+        }
+        .packed(),
+        Conditional::Dbnz { disp } => Fields {
+            kind: Kind::Dbnz,
+            size,
+            disp,
+            ..Fields::NONE
+        }
+        .packed(),
+        Conditional::Bcwz { disp } => Fields {
+            kind: Kind::Bcwz,
+            size,
+            disp,
+            ..Fields::NONE
+        }
+        .packed(),
     }
 }
 
-fn moving(i: Move, size: u16) -> u64
-    ensures { Packs (Moves i) size result }
+fn moving(i: Move, size: u16) -> Reading
+    ensures { Packs (Moves i) size result.bits }
 {
     match i {
         Move::Transfers(group) => transfer(group, size),
@@ -310,81 +422,126 @@ fn moving(i: Move, size: u16) -> u64
 }
 
 // Those with memory take the general path.
-fn product(o: u8, word: bool, by: Place, size: u16) -> u64
-    ensures { Packs (Multiplies (product_at (o % 8) word by)) size result }
+fn product(op: u8, word: bool, by: Place, size: u16) -> Reading
+    ensures { Packs (Multiplies (product_at (op % 8) word by)) size result.bits }
 {
     match by {
-        Place::Register(n) => quick_place::join(35, size, n, 0, o, 0, word, 0, 0),
-        Place::Memory(a) => 0,
+        Place::Register(rm) => Fields {
+            kind: Kind::MultiplyReg,
+            size,
+            rm,
+            op,
+            word,
+            ..Fields::NONE
+        }
+        .packed(),
+        Place::Memory(_) => Reading::NONE,
     }
 }
 
-fn multiply(i: Multiply, size: u16) -> u64
-    ensures { Packs (Multiplies i) size result }
+fn multiply(i: Multiply, size: u16) -> Reading
+    ensures { Packs (Multiplies i) size result.bits }
 {
     match i {
         Multiply::Mulu { word, by } => product(0, word, by, size),
         Multiply::Mul { word, by } => product(1, word, by, size),
         Multiply::Divu { word, by } => product(2, word, by, size),
         Multiply::Div { word, by } => product(3, word, by, size),
-        _ => 0,
+        _ => Reading::NONE,
     }
 }
 
 // Repeated by F3; otherwise they take the general path.
-fn stream(o: u8, word: bool, seg: u8, repeat: Repeat, size: u16) -> u64
-    ensures { Packs (Blocks (stream_at (o % 8)) word seg repeat) size result }
+fn stream(op: u8, word: bool, seg: u8, repeat: Repeat, size: u16) -> Reading
+    ensures { Packs (Blocks (stream_at (op % 8)) word seg repeat) size result.bits }
 {
     match repeat {
-        Repeat::WhileZ => quick_place::join(50, size, 0, 0, o, seg, word, 0, 0),
-        _ => 0,
+        Repeat::WhileZ => Fields {
+            kind: Kind::Stream,
+            size,
+            op,
+            seg,
+            word,
+            ..Fields::NONE
+        }
+        .packed(),
+        _ => Reading::NONE,
     }
 }
 
-fn block(primitive: Primitive, word: bool, seg: u8, repeat: Repeat, size: u16) -> u64
-    ensures { Packs (Blocks primitive word seg repeat) size result }
+fn portless(op: u8, word: bool, seg: u8, repeat: Repeat, size: u16) -> Reading
+    ensures { Packs (Blocks (primitive_at (op % 8)) word seg repeat) size result.bits }
 {
-    let q = repeat_number(repeat);
+    Fields {
+        kind: Kind::Block,
+        size,
+        reg: repeat.number(),
+        op,
+        seg,
+        word,
+        ..Fields::NONE
+    }
+    .packed()
+}
+
+fn block(primitive: Primitive, word: bool, seg: u8, repeat: Repeat, size: u16) -> Reading
+    ensures { Packs (Blocks primitive word seg repeat) size result.bits }
+{
     match primitive {
-        Primitive::Movbk => quick_place::join(32, size, 0, q, 0, seg, word, 0, 0),
-        Primitive::Cmpbk => quick_place::join(32, size, 0, q, 1, seg, word, 0, 0),
-        Primitive::Cmpm => quick_place::join(32, size, 0, q, 2, seg, word, 0, 0),
-        Primitive::Ldm => quick_place::join(32, size, 0, q, 3, seg, word, 0, 0),
-        Primitive::Stm => quick_place::join(32, size, 0, q, 4, seg, word, 0, 0),
+        Primitive::Movbk => portless(0, word, seg, repeat, size),
+        Primitive::Cmpbk => portless(1, word, seg, repeat, size),
+        Primitive::Cmpm => portless(2, word, seg, repeat, size),
+        Primitive::Ldm => portless(3, word, seg, repeat, size),
+        Primitive::Stm => portless(4, word, seg, repeat, size),
         Primitive::Inm => stream(0, word, seg, repeat, size),
         Primitive::Outm => stream(1, word, seg, repeat, size),
     }
 }
 
-fn input(word: bool, port: Port, size: u16) -> u64
-    ensures { Packs (Ports (In word port)) size result }
+// A port's number stands where an address has its offset.
+#[tactic(auto, unfolding(crate::specs::Readings::port_at))]
+fn port_fields(port: Port) -> (u8, u16)
+    ensures { port ≡ port_at result.0 result.1 }
 {
     match port {
-        Port::InDw => quick_place::join(48, size, 0, 0, 0, 0, word, 0, 0),
-        Port::Numbered(n) => quick_place::join(48, size, 8, 0, 0, 0, word, n as u16, 0),
+        Port::InDw => (0, 0),
+        Port::Numbered(n) => (NO_FORM, u16::from(n)),
     }
 }
 
-fn output(word: bool, port: Port, size: u16) -> u64
-    ensures { Packs (Ports (Out word port)) size result }
-{
-    match port {
-        Port::InDw => quick_place::join(49, size, 0, 0, 0, 0, word, 0, 0),
-        Port::Numbered(n) => quick_place::join(49, size, 8, 0, 0, 0, word, n as u16, 0),
-    }
-}
-
-fn at_a_port(i: Io, size: u16) -> u64
-    ensures { Packs (Ports i) size result }
+fn at_a_port(i: Io, size: u16) -> Reading
+    ensures { Packs (Ports i) size result.bits }
 {
     match i {
-        Io::In { word, port } => input(word, port, size),
-        Io::Out { word, port } => output(word, port, size),
+        Io::In { word, port } => {
+            let (rm, disp) = port_fields(port);
+            Fields {
+                kind: Kind::In,
+                size,
+                rm,
+                word,
+                disp,
+                ..Fields::NONE
+            }
+            .packed()
+        }
+        Io::Out { word, port } => {
+            let (rm, disp) = port_fields(port);
+            Fields {
+                kind: Kind::Out,
+                size,
+                rm,
+                word,
+                disp,
+                ..Fields::NONE
+            }
+            .packed()
+        }
     }
 }
 
-pub fn pack(i: Instr, size: u16) -> u64
-    ensures { Packs i size result }
+pub fn pack(i: Instr, size: u16) -> Reading
+    ensures { Packs i size result.bits }
 {
     match i {
         Instr::Computes(group) => compute(group, size),
@@ -397,13 +554,16 @@ pub fn pack(i: Instr, size: u16) -> u64
             repeat,
         } => block(primitive, word, seg, repeat, size),
         Instr::Ports(group) => at_a_port(group, size),
-        _ => 0,
+        _ => Reading::NONE,
     }
 }
 
 // Whether a reading is at a port.
-pub fn at_port(r: u64) -> bool
-    ensures { result ≡ at_port r }
+pub fn at_port(r: Reading) -> bool
+    ensures { result ≡ at_port r.bits }
 {
-    (48 <= r % 256) & (r % 256 <= 50)
+    match r.kind() {
+        Kind::In | Kind::Out | Kind::Stream => true,
+        _ => false,
+    }
 }

@@ -1,5 +1,5 @@
 -- What the instruction of each kind of reading does.
-use Rattle.std.specs.Prelude.{ℕ, ◌%◌, Bool, true, false, List, [], ◌∷◌, get_or}
+use Rattle.std.specs.Prelude.{ℕ, Bool, true, false, List, [], ◌∷◌}
 use Rattle.sheet.specs.declared.Place.TheVariants.{Register, Memory}
 use Rattle.sheet.specs.declared.Places.TheVariants.{One, Counted}
 use Rattle.sheet.specs.declared.Source.TheVariants.{Held, Immediate}
@@ -15,12 +15,12 @@ use Rattle.sheet.specs.Transfer.{mov, load_acc, store_acc, ldea, xch, from_segme
 use Rattle.sheet.specs.Stack.{push_register, pop_place}
 use Rattle.sheet.specs.Traps.{untrapped, jump_far}
 use Rattle.sheet.specs.Branch.{jump, branch_if, dbnz, dbnz_while, bcwz, call_near, ret}
-use Rattle.quick_place.specs.Packed.{kind_of, op_of, unary_at, shift_at, convert_at, string_at, product_at, primitive_at, repeat_at, cond_of, seg_of, word_of, rm_of, reg_of, disp_of, imm_of, address_of}
+use Rattle.quick_place.specs.Packed.{op_of, unary_at, shift_at, convert_at, string_at, product_at, primitive_at, repeat_at, cond_of, seg_of, word_of, rm_of, reg_of, disp_of, imm_of, address_of}
 use Rattle.quick_pack.specs.Readings.{amount_at}
 
--- in the order of `readings`
-abbrev pub trees : ℕ → List (Act Unit)
-trees r =
+-- in the order of `readings_0`
+abbrev pub trees_0 : ℕ → List (Act Unit)
+trees_0 r =
     pure tt
     ∷ two (operation_at (op_of r)) (word_of r) (Register (rm_of r)) (Held (Register (reg_of r)))
     ∷ two (operation_at (op_of r)) (word_of r) (Register (reg_of r)) (Held (Memory (address_of r)))
@@ -36,9 +36,9 @@ trees r =
     ∷ ret
     ∷ []
 
--- in the order of `further`
-abbrev pub further_trees : ℕ → List (Act Unit)
-further_trees r =
+-- in the order of `readings_16`
+abbrev pub trees_16 : ℕ → List (Act Unit)
+trees_16 r =
     two (operation_at (op_of r)) (word_of r) (Register (rm_of r)) (Immediate (imm_of r))
     ∷ two (operation_at (op_of r)) (word_of r) (Memory (address_of r)) (Immediate (imm_of r))
     ∷ mov (word_of r) (Memory (address_of r)) (Immediate (imm_of r))
@@ -55,9 +55,9 @@ further_trees r =
     ∷ test (word_of r) (Register (rm_of r)) (Immediate (imm_of r))
     ∷ []
 
--- in the order of `rest`; quotients may trap
-abbrev pub rest_trees : ℕ → ℕ → List (Act Bool)
-rest_trees r start =
+-- in the order of `readings_32`; quotients may trap
+abbrev pub trees_32 : ℕ → ℕ → List (Act Bool)
+trees_32 r start =
     untrapped (block (primitive_at (op_of r)) (word_of r) (seg_of r) (repeat_at (reg_of r)) start)
     ∷ untrapped (decimal (string_at (op_of r) (seg_of r)))
     ∷ untrapped (convert (convert_at (op_of r)))
@@ -72,13 +72,3 @@ rest_trees r start =
     ∷ untrapped (dbnz_while false (disp_of r))
     ∷ untrapped (dbnz_while true (disp_of r))
     ∷ []
-
--- by the low digit of the kind
-unfoldable pub first_tree : ℕ → Act Unit
-first_tree r = get_or (trees r) (kind_of r % 16) (pure tt)
-
-unfoldable pub further_tree : ℕ → Act Unit
-further_tree r = get_or (further_trees r) (kind_of r % 16) (pure tt)
-
-unfoldable pub rest_tree : ℕ → ℕ → Act Bool
-rest_tree r start = get_or (rest_trees r start) (kind_of r % 16) (untrapped (pure tt))

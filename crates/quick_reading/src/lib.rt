@@ -2,66 +2,58 @@
 #![tactic(auto)]
 
 ghost use Rattle.std.specs.Prelude.{◌≡◌, ◌/◌, ◌%◌, ◌<◌};
-ghost use Rattle.quick_reading.specs.Readings.{bytes_of, Means, Remembers};
+ghost use Rattle.quick_reading.specs.Readings.{Means, Remembers};
 
-use code_answer::Decoded;
+use quick_place::{Fields, Kind, Reading};
 
-fn bytes(w: u64) -> [u8; 8]
-    ensures { result ≡ bytes_of w }
-{
-    [
-        (w % 256) as u8,
-        (w / 256 % 256) as u8,
-        (w / 65536 % 256) as u8,
-        (w / 16777216 % 256) as u8,
-        (w / 4294967296 % 256) as u8,
-        (w / 1099511627776 % 256) as u8,
-        (w / 281474976710656 % 256) as u8,
-        (w / 72057594037927936 % 256) as u8,
-    ]
+// A window, and what it means.
+#[derive(Clone, Copy)]
+pub struct Slot {
+    pub window: u64,
+    pub reading: Reading,
 }
 
 // MOV reg16,imm16 without the decoder: a program that writes over its own operands writes over this one's most.
-fn load_word(w: u64) -> u64
+fn load_word(w: u64) -> Reading
     requires { w % 256 / 8 ≡ 0x17 }
-    ensures { Means w result }
+    ensures { Means w result.bits }
 {
-    let value = (w / 256 % 65536) as u16;
-    quick_place::join(7, 3, (w % 8) as u8, 0, 0, 0, true, 0, value)
+    let code = w.to_le_bytes();
+    Fields {
+        kind: Kind::MovRegImm,
+        size: 3,
+        rm: code[0] % 8,
+        word: true,
+        imm: u16::from_le_bytes([code[1], code[2]]),
+        ..Fields::NONE
+    }
+    .packed()
 }
 
 // By the decoder, which finds the window at address 0.
-fn read(w: u64) -> u64
-    ensures { Means w result }
+fn read(w: u64) -> Reading
+    ensures { Means w result.bits }
 {
     if w % 256 / 8 == 0x17 {
         return load_word(w);
     }
-    let code = bytes(w);
-    let d = code_decode::decode(&code, &code, 0, 0);
-    match d {
-        Decoded::Known { instr, size } => quick_pack::pack(instr, size),
-        Decoded::Unknown { number } => 0,
+    let window = w.to_le_bytes();
+    match code_decode::decode(&window, &window, 0, 0) {
+        Ok(d) => quick_pack::pack(d.instr, d.size),
+        Err(_) => Reading::NONE,
     }
-}
-
-fn slot(pc: u16) -> usize
-    ensures { result < 1024 }
-{
-    (pc % 1024) as usize
 }
 
 // The reading of a window, from the memo where it is there.
-pub fn recall(memo: &mut [u64; 2048], pc: u16, w: u64) -> u64
+pub fn recall(memo: &mut [Slot; 1024], pc: u16, w: u64) -> Reading
     requires { Remembers memo.old }
-    ensures { Means w result × Remembers memo.new }
+    ensures { Means w result.bits × Remembers memo.new }
 {
-    let i = slot(pc);
-    if memo[2 * i] == w {
-        return memo[2 * i + 1];
+    let i = usize::from(pc % 1024);
+    if memo[i].window == w {
+        return memo[i].reading;
     }
-    let r = read(w);
-    memo[2 * i] = w;
-    memo[2 * i + 1] = r;
-    r
+    let reading = read(w);
+    memo[i] = Slot { window: w, reading };
+    reading
 }

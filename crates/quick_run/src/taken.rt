@@ -3,10 +3,16 @@
 ghost use Rattle.std.specs.Prelude.{◌≡◌};
 ghost use Rattle.quick_run.specs.Taken.{StepCallOn, RunCallOn, InterruptCallOn};
 
-use sheet::State;
+use sheet::{Refusal, State};
 use step_answer::{Answer, Ran};
 
-pub fn step(s: State, ram: &mut [u8], rom: &[u8], tape: &[u8], log: &mut [u8]) -> Answer
+pub fn step(
+    s: State,
+    ram: &mut [u8],
+    rom: &[u8],
+    tape: &[u8],
+    log: &mut [u8],
+) -> Result<Answer, Refusal>
     ensures { StepCallOn s ram rom tape log result }
 {
     engine::step(s, ram, rom, tape, log)
@@ -26,7 +32,7 @@ pub fn interrupt(
     log: &[u8],
     vector: u8,
     maskable: bool,
-) -> Answer
+) -> Result<Answer, Refusal>
     ensures { InterruptCallOn vector maskable s ram rom tape log result }
 {
     step_calls::interrupt(s, ram, rom, tape, log, vector, maskable)

@@ -5,11 +5,11 @@ use mathlib.Core.Bool.{Bool}
 use mathlib.Core.List.{List, [], ◌∷◌}
 use lib.Dec.{lit≤}
 use lib.ListN.{get_or, set}
+use Rattle.sheet.specs.declared.Bus.{Bus}
 use Rattle.sheet.specs.declared.Flagged.{Flagged}
 use Rattle.sheet.specs.declared.Place.TheVariants.{Register, Memory}
 use Rattle.sheet.specs.declared.Places.TheVariants.{One}
 use Rattle.sheet.specs.declared.Shift.{Shift}
-use Rattle.sheet.specs.declared.Shift.TheVariants.{Rol, Ror, Rolc, Rorc, Shl, Shr, Shra}
 use Rattle.sheet.specs.Width.{mod_of}
 use Rattle.sheet.specs.Psw.{CY, flag_of}
 use Rattle.sheet.specs.Registers.{PSW, file_of, read_reg}
@@ -26,29 +26,8 @@ use Rattle.mach_registers.proofs.Laws.{file_reg}
 use Rattle.mach_memory.specs.Accesses.{Stores}
 use Rattle.mach_memory.proofs.Laws.{loads}
 use Rattle.mach_tally.specs.Sums.{Costs, Joins}
-use Rattle.quick_tally.specs.Packed.{bus_at}
 use Rattle.quick_place.specs.Packed.{op_of, shift_at, word_of, rm_of, address_of}
 use Rattle.quick_memory.proofs.Laws.{located, finish_stores}
-
--- ---- the field of the operation
-
-pub shift_at_lem : (r k : ℕ) (s : Shift) → op_of r ≡ k → s ≡ get_or (Rol ∷ Ror ∷ Rolc ∷ Rorc ∷ Shl ∷ Shr ∷ Shra ∷ []) k Rol → s ≡ shift_at (op_of r)
-unfolding shift_at
-shift_at_lem r k s e h = rw e h
-
-others_rol : (k : ℕ) → (k ≡ 1 → ⊥) → (k ≡ 2 → ⊥) → (k ≡ 3 → ⊥) → (k ≡ 4 → ⊥) → (k ≡ 5 → ⊥) → (k ≡ 6 → ⊥) → Rol ≡ shift_at k
-unfolding shift_at
-others_rol zero a b c d e f = refl
-others_rol (suc zero) a b c d e f = absurd (a refl)
-others_rol (suc (suc zero)) a b c d e f = absurd (b refl)
-others_rol (suc (suc (suc zero))) a b c d e f = absurd (c refl)
-others_rol (suc (suc (suc (suc zero)))) a b c d e f = absurd (d refl)
-others_rol (suc (suc (suc (suc (suc zero))))) a b c d e f = absurd (e refl)
-others_rol (suc (suc (suc (suc (suc (suc zero)))))) a b c d e f = absurd (f refl)
-others_rol (suc (suc (suc (suc (suc (suc (suc k))))))) a b c d e f = refl
-
-pub shift_else : (r : ℕ) → (op_of r ≡ 1 → ⊥) → (op_of r ≡ 2 → ⊥) → (op_of r ≡ 3 → ⊥) → (op_of r ≡ 4 → ⊥) → (op_of r ≡ 5 → ⊥) → (op_of r ≡ 6 → ⊥) → Rol ≡ shift_at (op_of r)
-shift_else r a b c d e f = others_rol (op_of r) a b c d e f
 
 -- ---- by 1
 
@@ -64,12 +43,12 @@ module _ (r x : ℕ) (k : Shift) (w cy : Bool) (y : Flagged) (f : List ℕ) (kno
       let o = shift_one k w x cy in
       rw (← known, ← wide, ← l) (file_seq _ file_pure (file_seq _ (file_reg w n q) (file_seq _ (carry_file k f cy carry) (file_seq _ (file_affect o f y result) (rw (value_is o f y result) at h)))))
 
-  pub one_m_is : (ram ram' rom : List ℕ) (g o n i t : ℕ) → g ≡ base_of (file_of f) (address_of r) → o ≡ offset_of (file_of f) (address_of r) → x ≡ read_mem w ram rom g o → x < mod_of w → Costs w o 0 (bus_at n)
-      → Stores w ram g o y.value ram' (bus_at i) → Joins (bus_at n) (bus_at i) (bus_at t)
-      → OnMemory Unit (shift (shift_at (op_of r)) (word_of r) (Memory (address_of r)) One) f ram rom tt (set f PSW y.psw) ram' (bus_at t) 6
+  pub one_m_is : (ram ram' rom : List ℕ) (g o : ℕ) (n i t : Bus) → g ≡ base_of (file_of f) (address_of r) → o ≡ offset_of (file_of f) (address_of r) → x ≡ read_mem w ram rom g o → x < mod_of w → Costs w o 0 n
+      → Stores w ram g o y.value ram' i → Joins n i t
+      → OnMemory Unit (shift (shift_at (op_of r)) (word_of r) (Memory (address_of r)) One) f ram rom tt (set f PSW y.psw) ram' t 6
   unfolding shift fetch
   one_m_is ram ram' rom g o n i t at off e l cost h j =
       rw (← known, ← wide, j.is)
       (memory_at_most {t = 4} 6 (lit≤ tt)
       (memory_free _ (located (address_of r) f g o at off)
-      (memory_seq _ {t = 2} {u = 2} ((loads w ram rom g o x (bus_at n) e l cost).at f) (memory_free _ (carry_file k f cy carry) (finish_stores w g o (shift_one k w x cy) y f ram ram' rom (bus_at i) result h)))))
+      (memory_seq _ {t = 2} {u = 2} ((loads w ram rom g o x n e l cost).at f) (memory_free _ (carry_file k f cy carry) (finish_stores w g o (shift_one k w x cy) y f ram ram' rom i result h)))))

@@ -1,16 +1,17 @@
 -- What each return of the code comes to, over plain values; and a window's reading is the code's.
 use Prim.Native.Nat.{ℕ, zero, suc, ◌+◌, ◌-◌, ◌*◌, ◌/◌, ◌%◌, ◌≤◌, ◌<◌}
-use mathlib.Core.Path.{◌≡◌, sym, ◌∙◌}
-use mathlib.Core.List.{List}
+use mathlib.Core.Path.{◌≡◌, refl, sym, ap, ◌∙◌}
+use mathlib.Core.List.{List, [], ◌∷◌}
 use native.Mathlib.Omega.{arith}
-use lib.ListN.{length}
+use lib.ListN.{get_or, length}
+use Rattle.std.specs.Int.{to_le_bytes, from_le_bytes, w64}
+use Rattle.std.proofs.lemmas.Nat.{le_bytes_8}
 use Rattle.sheet.specs.declared.Instr.{Instr}
 use Rattle.sheet.specs.Reading.{scan, length_of}
 use Rattle.sheet.specs.FirstByte.{instruction}
 use Rattle.sheet.specs.Step.{code_at, code_byte}
 use Rattle.sheet.proofs.ReadingLaws.{scan_rests}
-use Rattle.code_answer.specs.declared.Decoded.TheVariants.{Known}
-use Rattle.code_answer.specs.Answer.{Decodes}
+use Rattle.code_answer.specs.Answer.{known_as, Decodes}
 use Rattle.code_answer.proofs.DecodesLaws.{known_reads}
 use Rattle.quick_place.specs.Packed.{byte_of}
 use borrow.Author.Tests.{lt-ltb, le-ltb, le-leb}
@@ -19,31 +20,44 @@ use Rattle.quick_window.specs.Spelled.{Spells, listed}
 
 -- ---- bytes as a number
 
-pub four_is : (src : ℕ → ℕ) (i b c d e r : ℕ) → (e ≡ src i) × (e ≤ 255) → (b ≡ src (i + 1)) × (b ≤ 255) → (c ≡ src (i + 2)) × (c ≤ 255) → (d ≡ src (i + 3)) × (d ≤ 255)
-    → r ≡ e + 256 * (b + 256 * (c + 256 * d)) → Spells src i 4 r
+-- the bytes of a number are those that it was made of
+bytes_at : (n j : ℕ) → j < 8 → byte_of n j ≡ get_or (to_le_bytes w64 n) j 0
 unfolding byte_of
-four_is src i b c d e r (p, p') (q, q') (s, s') (t, t') z = record { at = go }
-  where
-    go : (j : ℕ) → j < 4 → byte_of r j ≡ src (i + j)
-    go zero h = let x : i + 0 ≡ i = omega arith in let y : r % 256 ≡ e = omega arith in rw (x, y) p
-    go (suc zero) h = let y : r / 256 % 256 ≡ b = omega arith in rw y q
-    go (suc (suc zero)) h = let y : r / 256 / 256 % 256 ≡ c = omega arith in rw y s
-    go (suc (suc (suc zero))) h = let y : r / 256 / 256 / 256 % 256 ≡ d = omega arith in rw y t
-    go (suc (suc (suc (suc j)))) h = absurd (omega arith)
+bytes_at n zero h = refl
+bytes_at n (suc zero) h = refl
+bytes_at n (suc (suc zero)) h = let e : n / 256 / 256 % 256 ≡ n / 65536 % 256 = omega arith in e
+bytes_at n (suc (suc (suc zero))) h = let e : n / 256 / 256 / 256 % 256 ≡ n / 16777216 % 256 = omega arith in e
+bytes_at n (suc (suc (suc (suc zero)))) h = let e : n / 256 / 256 / 256 / 256 % 256 ≡ n / 4294967296 % 256 = omega arith in e
+bytes_at n (suc (suc (suc (suc (suc zero))))) h = let e : n / 256 / 256 / 256 / 256 / 256 % 256 ≡ n / 1099511627776 % 256 = omega arith in e
+bytes_at n (suc (suc (suc (suc (suc (suc zero)))))) h = let e : n / 256 / 256 / 256 / 256 / 256 / 256 % 256 ≡ n / 281474976710656 % 256 = omega arith in e
+bytes_at n (suc (suc (suc (suc (suc (suc (suc zero))))))) h = let e : n / 256 / 256 / 256 / 256 / 256 / 256 / 256 % 256 ≡ n / 72057594037927936 % 256 = omega arith in e
+bytes_at n (suc (suc (suc (suc (suc (suc (suc (suc j)))))))) h = absurd (omega arith)
 
-pub eight_is : (src : ℕ → ℕ) (i l h r : ℕ) → Spells src i 4 l × (l ≤ 4294967295) → Spells src (i + 4) 4 h × (h ≤ 4294967295) → r ≡ l + 4294967296 * h → Spells src i 8 r
-unfolding byte_of
-eight_is src i l h r (p, p') (q, q') z = record { at = go }
-  where
-    go : (j : ℕ) → j < 8 → byte_of r j ≡ src (i + j)
-    go zero k = let y : r % 256 ≡ l % 256 = omega arith in rw y (p.at 0 (omega arith))
-    go (suc zero) k = let y : r / 256 % 256 ≡ l / 256 % 256 = omega arith in rw y (p.at 1 (omega arith))
-    go (suc (suc zero)) k = let y : r / 256 / 256 % 256 ≡ l / 256 / 256 % 256 = omega arith in rw y (p.at 2 (omega arith))
-    go (suc (suc (suc zero))) k = let y : r / 256 / 256 / 256 % 256 ≡ l / 256 / 256 / 256 % 256 = omega arith in rw y (p.at 3 (omega arith))
-    go (suc (suc (suc (suc j)))) k =
-        let y : r / 256 / 256 / 256 / 256 ≡ h = omega arith in
-        let x : i + 4 + j ≡ i + suc (suc (suc (suc j))) = omega arith in
-        rw y (rw x at (q.at j (omega arith)))
+module _ (src : ℕ → ℕ) (i b0 b1 b2 b3 b4 b5 b6 b7 r : ℕ) (e : r ≡ from_le_bytes w64 (b0 ∷ b1 ∷ b2 ∷ b3 ∷ b4 ∷ b5 ∷ b6 ∷ b7 ∷ [])) (f0 : b0 < 256) (f1 : b1 < 256) (f2 : b2 < 256) (f3 : b3 < 256) (f4 : b4 < 256) (f5 : b5 < 256) (f6 : b6 < 256) (f7 : b7 < 256) where
+  small : (j : ℕ) → get_or (b0 ∷ b1 ∷ b2 ∷ b3 ∷ b4 ∷ b5 ∷ b6 ∷ b7 ∷ []) j 0 < 256
+  small zero = f0
+  small (suc zero) = f1
+  small (suc (suc zero)) = f2
+  small (suc (suc (suc zero))) = f3
+  small (suc (suc (suc (suc zero)))) = f4
+  small (suc (suc (suc (suc (suc zero))))) = f5
+  small (suc (suc (suc (suc (suc (suc zero)))))) = f6
+  small (suc (suc (suc (suc (suc (suc (suc zero))))))) = f7
+  small (suc (suc (suc (suc (suc (suc (suc (suc j)))))))) = omega arith
+
+  pub eight_is : b0 ≡ src i → b1 ≡ src (i + 1) → b2 ≡ src (i + 2) → b3 ≡ src (i + 3) → b4 ≡ src (i + 4) → b5 ≡ src (i + 5) → b6 ≡ src (i + 6) → b7 ≡ src (i + 7) → Spells src i 8 r
+  eight_is q0 q1 q2 q3 q4 q5 q6 q7 = record { at = λ j h. (bytes_at r j h ∙ (ap (λ (l : List ℕ). get_or l j 0) (le_bytes_8 (b0 ∷ b1 ∷ b2 ∷ b3 ∷ b4 ∷ b5 ∷ b6 ∷ b7 ∷ []) r refl small e) ∙ each j h)) }
+    where
+      each : (j : ℕ) → j < 8 → get_or (b0 ∷ b1 ∷ b2 ∷ b3 ∷ b4 ∷ b5 ∷ b6 ∷ b7 ∷ []) j 0 ≡ src (i + j)
+      each zero h = let x : i + 0 ≡ i = omega arith in rw x q0
+      each (suc zero) h = q1
+      each (suc (suc zero)) h = q2
+      each (suc (suc (suc zero))) h = q3
+      each (suc (suc (suc (suc zero)))) h = q4
+      each (suc (suc (suc (suc (suc zero))))) h = q5
+      each (suc (suc (suc (suc (suc (suc zero)))))) h = q6
+      each (suc (suc (suc (suc (suc (suc (suc zero))))))) h = q7
+      each (suc (suc (suc (suc (suc (suc (suc (suc j)))))))) h = absurd (omega arith)
 
 -- ---- windows
 
@@ -73,7 +87,7 @@ module _ (ram rom : List ℕ) (ps pc a r : ℕ) (e : a ≡ physical ps pc) (h : 
 
 -- ---- the window's reading is the code's
 
-pub code_decodes : (w : ℕ) (src : ℕ → ℕ) (i : Instr) (n : ℕ) → Spells src 0 8 w → n ≤ 8 → Decodes instruction (byte_of w) 0 (Known i n) → Decodes instruction src 0 (Known i n)
+pub code_decodes : (w : ℕ) (src : ℕ → ℕ) (i : Instr) (n : ℕ) → Spells src 0 8 w → n ≤ 8 → Decodes instruction (byte_of w) 0 (known_as i n) → Decodes instruction src 0 (known_as i n)
 code_decodes w src i n s h d =
     let e = (known_reads i n d).is in
     let same : scan instruction (byte_of w) 0 ≡ scan instruction src 0 = scan_rests instruction (byte_of w) src 0 (λ j l k. (let m : length_of (scan instruction (byte_of w) 0) ≡ n = rw e in let z : 0 + j ≡ j = omega arith in rw z at (s.at j (omega arith)))) in

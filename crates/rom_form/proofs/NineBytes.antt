@@ -3,7 +3,7 @@ use Prim.Native.Nat.{ℕ, zero, suc, ◌≤◌}
 use mathlib.Core.Path.{◌≡◌, refl}
 use mathlib.Core.Bool.{true}
 use mathlib.Core.List.{List, [], ◌∷◌, ◌++◌}
-use mathlib.Core.Option.{Option, none, some}
+use Rattle.std.specs.Prelude.{Option, None, Some}
 use lib.ListN.{get_or}
 use lib.Dec.{eqb}
 use Rattle.sheet.specs.declared.Place.{Place}
@@ -88,8 +88,8 @@ of_with_immediate p b = of_with_place p _ λ reg a. into _ (of_small_immediate b
 
 of_with_shift : {n : ℕ} (o : Option Shift) (k : Shift → Reading Instr) → ((s : Shift) → Short n (k s)) → Short n (with_shift o k)
 unfolding with_shift
-of_with_shift none k h = stop
-of_with_shift (some s) k h = h s
+of_with_shift None k h = stop
+of_with_shift (Some s) k h = h s
 
 of_shift_group : (p : Prefixes) (count : Reading Places) → Room 2 1 count → (n : ℕ) → Short 5 (shift_group p count n)
 unfolding shift_group
@@ -261,8 +261,8 @@ of_first_bytes p = both (of_bytes00 p) (both (of_bytes40 p) (both (of_bytes80 p)
 
 of_after_prefix : {n : ℕ} (o : Option Prefix) (k : Prefix → Reading Instr) (other : Reading Instr) → ((q : Prefix) → Short n (k q)) → Short n other → Short n (after_prefix o k other)
 unfolding after_prefix
-of_after_prefix none k other h g = g
-of_after_prefix (some q) k other h g = h q
+of_after_prefix None k other h g = g
+of_after_prefix (Some q) k other h g = h q
 
 -- six bytes, and a byte for each prefix
 abbrev most : ℕ → ℕ

@@ -1,25 +1,19 @@
 -- Lines compared with a listing, line by line. Assumes nothing.
 use Prim.Native.Nat.{ℕ, ◌+◌, ◌-◌, ◌≤◌, ◌<◌, zero-le}
-use mathlib.Core.Path.{◌≡◌, sym, ap, ◌∙◌}
-use mathlib.Core.Bool.{Bool, true, false, not, true≢false}
+use mathlib.Core.Path.{◌≡◌, refl, sym, ap, ◌∙◌}
+use mathlib.Core.Bool.{Bool, true, false, true≢false}
 use mathlib.Core.List.{List, ◌++◌, append-nil, append_assoc}
 use native.Mathlib.Omega.{arith}
 use lib.ListN.{length, take, drop, length-append, length-drop}
 use lib.Seq.{take_all, take-add, take_at, drop_at, length-take-le}
 use lib.Dec.{eqb}
-use borrow.Author.Tests.{eqb-true, eqb-false, not-true, not-false}
+use borrow.Author.Tests.{eqb-true, eqb-false}
 use Rattle.base_laws.proofs.Parts.{rest}
 use Rattle.rom_list.specs.Makes.{Makes}
-use Rattle.rom_list.proofs.LineText.{made}
+use Rattle.rom_list.specs.Agrees.{Begins, Agrees}
 use Rattle.rom_form.specs.Listing.{top, line_at, size_at, lines_from, listing}
 use Rattle.rom_form.proofs.RoundTrip.{size_at_lem}
-use Rattle.rom_list.specs.Agrees.{Begins, Compares, Agrees}
 use Rattle.rom_form.proofs.Lines.{no_lines, line_and_rest, all_lines}
-
--- a line that was made, compared with what follows
-module _ {image line line' : List ℕ} {a r size : ℕ} (h : a < top) (n : length line ≡ 80) (m : Makes image a line r size line') where
-  pub compared : {s : List ℕ} {b : Bool} → Begins (take r line') s b → Compares image a s b r size
-  compared b = record { here = rw (made h n m).first at b; long = (made h n m).count; counts = m.counts }
 
 -- the loop's invariant: the listing is the lines up to `at`, and then the lines from address a on
 pub record Agreeing (lines image : List ℕ) (a at : ℕ) : Type 0 where
@@ -32,40 +26,40 @@ pub begun : (lines image : List ℕ) → length image ≤ top → Agreeing lines
 begun lines image h = record { low = omega arith; high = omega arith; place = zero-le; all = all_lines image h }
 
 module _ {lines image : List ℕ} {a at : ℕ} (g : Agreeing lines image a at) where
-  module _ (h : a < top) {b : Bool} {len size : ℕ} (r : Compares image a (take (length lines - at) (drop at lines)) b len size) where
-    c : Compares image a (drop at lines) b len size
-    c = rw (rest at lines) at r
+  module _ (h : a < top) {line : List ℕ} {b : Bool} {size : ℕ} (m : Makes image a line size) (d : Begins line (take (length lines - at) (drop at lines)) b) where
+    here : Begins (line_at image a) (drop at lines) b
+    here = rw m.here at (rw (rest at lines) at d)
 
     next : listing image ≡ take at lines ++ (line_at image a ++ lines_from (top - (a + size_at image a)) image (a + size_at image a))
     next = g.all ∙ ap (λ (l : List ℕ). take at lines ++ l) (line_and_rest image a h)
 
     pub on_by_one : 1 ≤ size
-    on_by_one = omega (arith, (size_at_lem image a h).some, c.counts)
+    on_by_one = omega (arith, (size_at_lem image a h).some, m.counts)
 
     pub few : size ≤ 9
-    few = omega (arith, (size_at_lem image a h).few, c.counts)
+    few = omega (arith, (size_at_lem image a h).few, m.counts)
 
-    pub line_agrees : not b ≡ false → Agreeing lines image (a + size) (at + len)
+    pub line_agrees : b ≡ true → Agreeing lines image (a + size) (at + length line)
     line_agrees t =
         let x = line_at image a in
-        let e = c.here.yes (not-false b t) in
-        let f : take len (drop at lines) ≡ x = ap (take len) e ∙ take_at x (drop (length x) (drop at lines)) len (sym c.long) in
+        let e = here.yes t in
+        let f : take (length x) (drop at lines) ≡ x = ap (take (length x)) e ∙ take_at x (drop (length x) (drop at lines)) (length x) refl in
         let n = ap length e ∙ length-append x (drop (length x) (drop at lines)) in
         let fits = (size_at_lem image a h).fits in
-        rw c.counts
+        rw (m.counts, m.here)
         (record {
           low = omega (arith, g.low);
           high = omega arith;
-          place = omega (arith, g.place, n, length-drop at lines, c.long);
-          all = next ∙ (sym (append_assoc (take at lines) x _) ∙ ap (λ (l : List ℕ). l ++ lines_from (top - (a + size_at image a)) image (a + size_at image a)) (sym (take-add at len lines ∙ ap (λ (l : List ℕ). take at lines ++ l) f)));
+          place = omega (arith, g.place, n, length-drop at lines);
+          all = next ∙ (sym (append_assoc (take at lines) x _) ∙ ap (λ (l : List ℕ). l ++ lines_from (top - (a + size_at image a)) image (a + size_at image a)) (sym (take-add at (length x) lines ∙ ap (λ (l : List ℕ). take at lines ++ l) f)));
         })
 
-    pub line_differs : not b ≡ true → Agrees lines image false
+    pub line_differs : b ≡ false → Agrees lines image false
     line_differs t =
         record {
           yes = λ z. absurd (true≢false (sym z));
           no = λ z e.
-              c.here.no (not-true b t) (lines_from (top - (a + size_at image a)) image (a + size_at image a))
+              here.no t (lines_from (top - (a + size_at image a)) image (a + size_at image a))
               (ap (drop at) (sym e ∙ next) ∙ drop_at (take at lines) _ at (length-take-le at lines g.place));
         }
 

@@ -1,11 +1,10 @@
 -- One character of a line. Assumes nothing.
 use Prim.Native.Nat.{ℕ, ◌+◌, ◌-◌, ◌*◌, ◌%◌, ◌≤◌, ◌<◌}
-use mathlib.Core.Path.{◌≡◌, refl, sym}
-use mathlib.Core.Bool.{Bool, true, false, not, ◌&&◌, and-false, and-eq-true_iff, true≢false}
+use mathlib.Core.Path.{◌≡◌, refl}
+use mathlib.Core.Bool.{Bool, true, false, ◌&&◌, and-eq-true_iff, true≢false}
 use mathlib.Core.List.{List, ◌∷◌}
 use native.Mathlib.Omega.{arith}
-use lib.Dec.{leb, eqb}
-use borrow.Author.Tests.{lt-ltb, le-ltb, le-leb, lt-leb, ne_eqb}
+use borrow.Author.Tests.{lt-ltb, le-ltb, ne_eqb}
 use Rattle.sheet.specs.Width.{pick, odd}
 use Rattle.rom_form.specs.Restored.{digit_of, is_digit, restored_from}
 use Rattle.rom_list.specs.Restores.{ends_byte, high_after}
@@ -17,13 +16,13 @@ module _ (c : ℕ) where
   unfolding digit_of
   below_digits h = rw (lt-ltb c 58 (omega arith)) (omega arith)
 
-  pub decimal_digit : 48 ≤ c → c < 58 → c - 48 ≡ digit_of c
+  pub decimal_digit : 48 ≤ c → c ≤ 57 → c - 48 ≡ digit_of c
   unfolding digit_of
-  decimal_digit h k = rw (lt-ltb c 58 k) (omega arith)
+  decimal_digit h k = rw (lt-ltb c 58 (omega arith)) (omega arith)
 
-  pub letter_digit : 58 ≤ c → (c - 55) % 16 ≡ digit_of c
+  pub letter_digit : 57 < c → (c - 55) % 16 ≡ digit_of c
   unfolding digit_of
-  letter_digit h = rw (le-ltb c 58 h)
+  letter_digit h = rw (le-ltb c 58 (omega arith))
 
   digit_small : digit_of c < 16
   unfolding digit_of
@@ -32,30 +31,9 @@ module _ (c : ℕ) where
   pub digit_bound : {r : ℕ} → r ≡ digit_of c → r < 16
   digit_bound e = rw e digit_small
 
-module _ (column c : ℕ) where
-  pub too_early : column < 6 → false ≡ is_digit column c
-  unfolding is_digit
-  too_early h = rw (lt-leb 6 column h)
-
-  pub too_late : 24 ≤ column → false ≡ is_digit column c
-  unfolding is_digit
-  too_late h = rw (le-ltb column 24 h) (sym (and-false (leb 6 column)))
-
-  pub in_columns : 6 ≤ column → column < 24 → not (eqb c 32) ≡ is_digit column c
-  unfolding is_digit
-  in_columns h k = rw (le-leb 6 column h, lt-ltb column 24 k)
-
 -- ---- the digit that was read last
 
 module _ (column c : ℕ) (d : Bool) (e : d ≡ is_digit column c) where
-  pub ends_by_column : d ≡ true → odd column ≡ ends_byte column c
-  unfolding ends_byte
-  ends_by_column h = rw (← e, h)
-
-  pub no_digit_ends : d ≡ false → false ≡ ends_byte column c
-  unfolding ends_byte
-  no_digit_ends h = rw (← e, h)
-
   module _ (high : ℕ) where
     pub digit_kept : (r : ℕ) → r ≡ digit_of c → d ≡ true → r ≡ high_after column high c
     unfolding high_after

@@ -12,20 +12,7 @@ use Rattle.rom_form.specs.Listing.{top, size_at, line_at, lines_from, listing}
 use Rattle.rom_form.proofs.RoundTrip.{Sized, size_at_lem}
 use Rattle.rom_form.proofs.Lines.{line_short, no_lines, line_and_rest, all_lines}
 use Rattle.rom_list.specs.Makes.{Makes}
-use Rattle.rom_list.proofs.LineText.{made}
-use Rattle.rom_list.specs.Lists.{Measures, Puts, Lists, listed, too_long, no_room}
-
-module _ {image line line' : List ℕ} {a r size : ℕ} (h : a < top) (n : length line ≡ 80) (m : Makes image a line r size line') where
-  pub measured : Measures image a r size
-  measured = record { long = (made h n m).count; counts = m.counts }
-
-  pub put_so : {out out' : List ℕ} {k : ℕ} → Writes (take r line') out k out' → Puts image a out r size out'
-  put_so w =
-      let l = rw (made h n m).first at w in
-      record { writes = record { count = (made h n m).count; within = omega (arith, l.count, l.within, (made h n m).count); left = l.left }; counts = m.counts }
-
-  pub room_so : (out : List ℕ) → length (line_at image a) ≤ length out → length (take r line') ≤ length out
-  room_so out p = rw (made h n m).first p
+use Rattle.rom_list.specs.Lists.{Lists, listed, too_long, no_room}
 
 -- ---- measured so far: the lines up to an address
 
@@ -42,16 +29,16 @@ counting_begun image h = record { low = omega arith; high = omega arith; sums = 
 pub moves : (image : List ℕ) {a size : ℕ} → a < top → size ≡ size_at image a → Sized size (top - a)
 moves image {a} h e = rw e (size_at_lem image a h)
 
-pub counting_more : {image : List ℕ} {a sum len size : ℕ} → Counting image a sum → a < top → Measures image a len size → Counting image (a + size) (sum + len)
-counting_more {image} {a} {sum} {len} {size} c h m =
+pub counting_more : {image line : List ℕ} {a sum size : ℕ} → Counting image a sum → a < top → Makes image a line size → Counting image (a + size) (sum + length line)
+counting_more {image} {line} {a} {sum} {size} c h m =
     let s = moves image h m.counts in
     let e = ap length (line_and_rest image a h) ∙ length-append (line_at image a) (lines_from (top - (a + size_at image a)) image (a + size_at image a)) in
     let f = rw (← m.counts) at e in
     record {
       low = omega (arith, c.low);
       high = omega (arith, s.fits);
-      sums = omega (arith, c.sums, f, m.long);
-      small = omega (arith, c.small, c.low, s.some, m.long, line_short image a h);
+      sums = omega (arith, c.sums, f, ap length m.here);
+      small = omega (arith, c.small, c.low, s.some, ap length m.here, line_short image a h);
     }
 
 pub counted : {image : List ℕ} {a sum : ℕ} → Counting image a sum → top ≤ a → sum ≡ length (listing image)
@@ -74,23 +61,25 @@ module _ {image out out' : List ℕ} {a at : ℕ} (w : Writing image out a at ou
   pub rest_is : w.done ++ (line_at image a ++ lines_from (top - (a + size_at image a)) image (a + size_at image a)) ≡ listing image
   rest_is = ap (λ (l : List ℕ). w.done ++ l) (sym (line_and_rest image a h)) ∙ w.all
 
-  pub line_room : length (line_at image a) ≤ length (take (length out' - at) (drop at out'))
-  line_room =
-      let t = lines_from (top - (a + size_at image a)) image (a + size_at image a) in
-      writing.room w.writes (line_at image a)
-      (omega (arith, n, ap length rest_is, length-append w.done (line_at image a ++ t), length-append (line_at image a) t, length-append w.done (line_at image a)))
+  module _ {line : List ℕ} {size : ℕ} (m : Makes image a line size) where
+    pub line_room : length line ≤ length (take (length out' - at) (drop at out'))
+    line_room =
+        let t = lines_from (top - (a + size_at image a)) image (a + size_at image a) in
+        rw m.here
+        (writing.room w.writes (line_at image a)
+        (omega (arith, n, ap length rest_is, length-append w.done (line_at image a ++ t), length-append (line_at image a) t, length-append w.done (line_at image a))))
 
-  pub writing_more : {len size : ℕ} {part : List ℕ} → Puts image a (take (length out' - at) (drop at out')) len size part
-      → Writing image out (a + size) (at + len) (put_mid at (length out' - at) out' part)
-  writing_more {len} {size} {part} p =
-      let s = moves image h p.counts in
-      record {
-        low = omega (arith, w.low);
-        high = omega (arith, s.fits);
-        done = w.done ++ line_at image a;
-        writes = writing.more w.writes (line_at image a) part len p.writes;
-        all = rw p.counts (append_assoc w.done (line_at image a) _ ∙ rest_is);
-      }
+    pub writing_more : {len : ℕ} {part : List ℕ} → Writes line (take (length out' - at) (drop at out')) len part
+        → Writing image out (a + size) (at + len) (put_mid at (length out' - at) out' part)
+    writing_more {len} {part} p =
+        let s = moves image h m.counts in
+        record {
+          low = omega (arith, w.low);
+          high = omega (arith, s.fits);
+          done = w.done ++ line_at image a;
+          writes = writing.more w.writes (line_at image a) part len (rw m.here at p);
+          all = rw m.counts (append_assoc w.done (line_at image a) _ ∙ rest_is);
+        }
 
 pub written : {image out out' : List ℕ} {a at : ℕ} → Writing image out a at out' → top ≤ a → Writes (listing image) out at out'
 written {image} {out} {out'} {a} {at} w h =

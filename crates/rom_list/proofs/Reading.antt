@@ -1,7 +1,7 @@
 -- The reader's loop. Assumes nothing.
-use Prim.Native.Nat.{ℕ, ◌+◌, ◌-◌, ◌*◌, ◌≤◌, ◌<◌, zero-le}
+use Prim.Native.Nat.{ℕ, ◌+◌, ◌*◌, ◌≤◌, ◌<◌, zero-le}
 use mathlib.Core.Path.{◌≡◌, refl, sym, ap, ◌∙◌}
-use mathlib.Core.Bool.{Bool, true, false, true≢false}
+use mathlib.Core.Bool.{Bool, true, false}
 use mathlib.Core.List.{List, [], ◌∷◌, ◌++◌, append-nil, append_assoc}
 use native.Mathlib.Numerals.{add-one}
 use native.Mathlib.Omega.{arith}
@@ -11,7 +11,7 @@ use lib.Dec.{lit≤}
 use Rattle.base_laws.specs.Writes.{Writes}
 use Rattle.base_laws.proofs.Writing.{none, same, byte}
 use Rattle.rom_form.specs.Restored.{digit_of, restored_from, restored}
-use Rattle.rom_list.specs.Restores.{ends_byte, high_after, Restores}
+use Rattle.rom_list.specs.Restores.{ends_byte, high_after}
 use Rattle.rom_list.proofs.Characters.{high_small, line_end_read, second_read, other_read}
 
 -- the loop's invariant: `done` stands in the room, and what is left of the lines gives the rest
@@ -79,15 +79,11 @@ module _ {lines room₀ room : List ℕ} {column high len i : ℕ} (g : Going li
               all = one_more;
             })
 
-        pub too_long : length room ≤ len → Restores lines room₀ false 0 room
-        too_long r =
-            record {
-              short = λ z. absurd (true≢false (sym z));
-              long = rw one_more (rw (length-append, length-append) (omega (arith, g.wrote.count, room_kept)));
-            }
+        pub too_long : length room ≤ len → length room₀ < length (restored lines)
+        too_long r = rw one_more (rw (length-append, length-append) (omega (arith, g.wrote.count, room_kept)))
 
-  pub all_read : length lines ≤ i → Restores lines room₀ true len room
+  pub all_read : length lines ≤ i → Writes (restored lines) room₀ len room
   unfolding restored_from
   all_read h =
       let e : restored lines ≡ g.done = g.all ∙ rw (drop_of_length-le lines h) (append-nil g.done) in
-      record { short = λ z. rw e g.wrote; long = λ z. absurd (true≢false z) }
+      rw e g.wrote

@@ -12,7 +12,6 @@ use borrow.Author.Tests.{eqb-false, not-true, not-false}
 use Rattle.base_laws.specs.Writes.{Writes}
 use Rattle.base_laws.proofs.Writing.{same}
 use Rattle.rom_form.specs.Restored.{restored}
-use Rattle.rom_list.specs.Restores.{Restores}
 use Rattle.rom_list.specs.Agrees.{Agrees}
 use Rattle.rom_list.specs.Rebuilds.{Listed, Rebuilds}
 
@@ -56,23 +55,19 @@ module _ {lines image : List ℕ} {b : Bool} (e : image ≡ restored lines) (a :
 
 -- ---- what was restored to the scratch
 
-module _ {lines scratch scratch' : List ℕ} {fits : Bool} {len : ℕ} (h : length scratch ≡ 32768) (r : Restores lines scratch fits len scratch') where
-  pub too_long : {out : List ℕ} → not fits ≡ true → Rebuilds lines out 16 0 out
-  too_long f = not_listed λ l. lt_irrefl 32768 (omega (arith, r.long (not-true fits f), l.short))
+pub too_long : (lines scratch : List ℕ) {out : List ℕ} → length scratch ≡ 32768 → length scratch < length (restored lines) → Rebuilds lines out 16 0 out
+too_long lines scratch h k = not_listed λ l. lt_irrefl 32768 (omega (arith, h, k, l.short))
 
-  module _ (t : not fits ≡ false) where
-    stands : Writes (restored lines) scratch len scratch'
-    stands = r.short (not-false fits t)
+module _ (lines : List ℕ) {scratch scratch' : List ℕ} {len : ℕ} (h : length scratch ≡ 32768) (stands : Writes (restored lines) scratch len scratch') where
+  pub part : len ≤ length scratch'
+  part = omega (arith, stands.within, same stands)
 
-    pub part : len ≤ length scratch'
-    part = omega (arith, stands.within, same stands)
+  pub part_long : len ≡ length (take len scratch')
+  part_long = sym (length-take-le len scratch' part)
 
-    pub part_long : len ≡ length (take len scratch')
-    part_long = sym (length-take-le len scratch' part)
+  -- it stands at the start
+  pub part_restored : take len scratch' ≡ restored lines
+  part_restored = ap (take len) stands.left ∙ take_at (restored lines) (drop (length (restored lines)) scratch) len (sym stands.count)
 
-    -- it stands at the start
-    pub part_restored : take len scratch' ≡ restored lines
-    part_restored = ap (take len) stands.left ∙ take_at (restored lines) (drop (length (restored lines)) scratch) len (sym stands.count)
-
-    pub part_short : length (take len scratch') ≤ 32768
-    part_short = omega (arith, part_long, stands.within)
+  pub part_short : length (take len scratch') ≤ 32768
+  part_short = omega (arith, part_long, stands.within)

@@ -1,17 +1,7 @@
 -- What contracts of the lister say.
-use Rattle.std.specs.Prelude.{ℕ, ◌≤◌, ◌<◌, ◌≡◌, List, length}
+use Rattle.std.specs.Prelude.{ℕ, ◌≤◌, ◌<◌, List, length}
 use Rattle.base_laws.specs.Writes.{Writes}
-use Rattle.rom_form.specs.Listing.{size_at, line_at, listing}
-
--- how long the line at an address is, and how many bytes it names
-pub record Measures (image : List ℕ) (a len size : ℕ) : Type 0 where
-  pub long : len ≡ length (line_at image a)
-  pub counts : size ≡ size_at image a
-
--- the line at an address was written
-pub record Puts (image : List ℕ) (a : ℕ) (out : List ℕ) (len size : ℕ) (out' : List ℕ) : Type 0 where
-  pub writes : Writes (line_at image a) out len out'
-  pub counts : size ≡ size_at image a
+use Rattle.rom_form.specs.Listing.{listing}
 
 -- the listing was written, or refused by 17 for too long an image and then by 6 for too little room
 pub data Lists (image out : List ℕ) : (number len : ℕ) (out' : List ℕ) → Type 0 where

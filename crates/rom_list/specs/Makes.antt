@@ -1,5 +1,5 @@
 -- What is said of the making of a line.
-use Rattle.std.specs.Prelude.{ℕ, ◌-◌, ◌*◌, ◌≡◌, List, ◌++◌, length, get_or, take, drop, replicate}
+use Rattle.std.specs.Prelude.{ℕ, ◌-◌, ◌*◌, ◌≡◌, List, [], ◌++◌, length, get_or, take, drop, replicate}
 use Rattle.base_text.specs.Text.{text, hex}
 use Rattle.base_line.specs.Adds.{Adds}
 use Rattle.sheet.specs.declared.Instr.{Instr}
@@ -17,12 +17,12 @@ instr_line a bytes next i = line a bytes (instr_text next i)
 unfoldable pub data_line : (a : ℕ) (bytes : List ℕ) (b : ℕ) → List ℕ
 data_line a bytes b = line a bytes (data_text b)
 
--- the line at an address was put into an empty line: so many bytes of text, for so many of the image
-pub record Makes (image : List ℕ) (a : ℕ) (line : List ℕ) (r size : ℕ) (line' : List ℕ) : Type 0 where
-  pub adds : Adds (line_at image a) line 0 r line'
+-- the line at an address was made: its text, and how many bytes of the image it names
+pub record Makes (image : List ℕ) (a : ℕ) (line : List ℕ) (size : ℕ) : Type 0 where
+  pub here : line ≡ line_at image a
   pub counts : size ≡ size_at image a
 
 -- the byte at place k alone
-pub record MakesByte (image : List ℕ) (a k : ℕ) (line : List ℕ) (r size : ℕ) (line' : List ℕ) : Type 0 where
-  pub adds : Adds (data_line a (take 1 (drop k image)) (get_or image k 0)) line 0 r line'
+pub record MakesByte (image : List ℕ) (a k : ℕ) (line : List ℕ) (size : ℕ) : Type 0 where
+  pub adds : Adds (data_line a (take 1 (drop k image)) (get_or image k 0)) [] line
   pub counts : size ≡ 1

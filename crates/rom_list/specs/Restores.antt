@@ -1,5 +1,5 @@
 -- What one character of a line does to the reader, and what is said of the reader.
-use Rattle.std.specs.Prelude.{ℕ, ◌<◌, ◌≡◌, Bool, true, false, ◌&&◌, List, length}
+use Rattle.std.specs.Prelude.{ℕ, ◌<◌, Bool, ◌&&◌, List, length, Option, Some, None}
 use Rattle.sheet.specs.Width.{pick, odd}
 use Rattle.base_laws.specs.Writes.{Writes}
 use Rattle.rom_form.specs.Restored.{digit_of, is_digit, restored}
@@ -13,6 +13,6 @@ unfoldable pub high_after : (column h c : ℕ) → ℕ
 high_after column h c = pick (is_digit column c) (digit_of c) h
 
 -- the image that the lines name stands at the start of the room, or is too long for it
-pub record Restores (lines room : List ℕ) (fits : Bool) (len : ℕ) (room' : List ℕ) : Type 0 where
-  pub short : fits ≡ true → Writes (restored lines) room len room'
-  pub long : fits ≡ false → length room < length (restored lines)
+abbrev pub Restores : (lines room : List ℕ) → Option ℕ → (room' : List ℕ) → Type 0
+Restores lines room (Some n) room' = Writes (restored lines) room n room'
+Restores lines room None room' = length room < length (restored lines)

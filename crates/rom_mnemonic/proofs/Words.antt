@@ -12,8 +12,7 @@ use borrow.Author.Tests.{leb-true}
 use Rattle.sheet.specs.declared.Address.{Address}
 use Rattle.sheet.specs.declared.Address.TheVariants.{Formed, Direct}
 use Rattle.sheet.specs.declared.Form.{Form}
-use Rattle.sheet.specs.declared.Index.{Index}
-use Rattle.sheet.specs.declared.Index.TheVariants.{Of, Nothing}
+use Rattle.std.specs.Prelude.{Option, Some, None}
 use Rattle.sheet.specs.declared.Transfer.{Transfer}
 use Rattle.sheet.specs.declared.Transfer.TheVariants.{Mov, LoadAcc, StoreAcc, ToSegment, FromSegment, LoadPointer, AhFromPsw, PswFromAh, Ldea, Trans, Xch}
 use Rattle.sheet.specs.declared.Operation.{Operation}
@@ -172,10 +171,10 @@ size_fits Byte = word refl
 size_fits Word = word refl
 size_fits Pair = word refl
 
-index_fits : (i : Index) → Fits 3 (index_text i)
+index_fits : (i : Option ℕ) → Fits 3 (index_text i)
 unfolding index_text
-index_fits (Of n) = joined (spelled "+" refl) (register_fits true n)
-index_fits Nothing = word refl
+index_fits (Some n) = joined (spelled "+" refl) (register_fits true n)
+index_fits None = word refl
 
 form_fits : (f : Form) → Fits 5 (form_text f)
 unfolding form_text

@@ -1,10 +1,8 @@
 -- Operands as text.
-use Rattle.std.specs.Prelude.{ℕ, ◌+◌, ◌*◌, ◌%◌, Bool, true, List, [], ◌∷◌, ◌++◌, get_or, eqb}
+use Rattle.std.specs.Prelude.{ℕ, ◌+◌, ◌*◌, ◌%◌, Bool, true, List, [], ◌∷◌, ◌++◌, get_or, eqb, Option, Some, None}
 use Rattle.sheet.specs.declared.Address.{Address}
 use Rattle.sheet.specs.declared.Address.TheVariants.{Formed, Direct}
 use Rattle.sheet.specs.declared.Form.{Form}
-use Rattle.sheet.specs.declared.Index.{Index}
-use Rattle.sheet.specs.declared.Index.TheVariants.{Of, Nothing}
 use Rattle.sheet.specs.Width.{pick}
 use Rattle.sheet.specs.Operand.{form_at}
 use Rattle.base_text.specs.Text.{text, hex}
@@ -42,9 +40,9 @@ size_text Byte = text "BYTE "
 size_text Word = text "WORD "
 size_text Pair = text "DWORD "
 
-unfoldable pub index_text : Index → List ℕ
-index_text (Of n) = text "+" ++ register_text true n
-index_text Nothing = []
+unfoldable pub index_text : Option ℕ → List ℕ
+index_text (Some n) = text "+" ++ register_text true n
+index_text None = []
 
 unfoldable pub form_text : Form → List ℕ
 form_text f = register_text true f.base ++ index_text f.index

@@ -1,15 +1,17 @@
 // An instruction in NEC's words: operands, and a mnemonic with its operands, as text in a line.
 #![tactic(auto)]
 
-ghost use Rattle.std.specs.Prelude.{◌≡◌, ◌<◌};
+ghost use Rattle.std.specs.Prelude.{◌≡◌, false};
+ghost use Rattle.sheet.specs.Width.{pick};
 ghost use Rattle.sheet.specs.Operand.{form_at};
+ghost use Rattle.sheet.specs.Registers as registers;
 ghost use Rattle.base_line.specs.Adds.{AddsTo};
 ghost use Rattle.rom_mnemonic.specs.declared.Operand.TheVariants as operand;
 ghost use Rattle.rom_mnemonic.specs.Operands as text;
 ghost use Rattle.rom_mnemonic.specs.Mnemonics as words;
 
-use base_line::{put_byte, put_hex, put_word};
-use sheet::{Address, Amount, Form, Index, Length, Place, Places, Port, Source};
+use base_line::Line;
+use sheet::{Address, Amount, Length, Place, Places, Port, Source};
 
 // How much stands at an address: an address alone, a byte, a word, or a pointer of two words.
 #[derive(Clone, Copy)]
@@ -36,220 +38,200 @@ pub enum Operand {
     Far { ps: u16, pc: u16 },
 }
 
-const WORDS: [u8; 16] = [
-    b'A', b'W', b'C', b'W', b'D', b'W', b'B', b'W', b'S', b'P', b'B', b'P', b'I', b'X', b'I', b'Y',
-];
-
-const BYTES: [u8; 16] = [
-    b'A', b'L', b'C', b'L', b'D', b'L', b'B', b'L', b'A', b'H', b'C', b'H', b'D', b'H', b'B', b'H',
-];
-
-fn letter(word: bool, i: usize) -> u8
-    requires { i < 16 }
-    ensures { result ≡ text.letter word i }
+// Two letters a register.
+fn register_names(word: bool) -> &'static [u8; 16]
+    ensures { result.now ≡ pick word text.word_registers text.byte_registers }
 {
-    if word { WORDS[i] } else { BYTES[i] }
+    if word {
+        b"AWCWDWBWSPBPIXIY"
+    } else {
+        b"ALCLDLBLAHCHDHBH"
+    }
 }
 
-fn put_register(line: &mut [u8; 80], at: usize, word: bool, n: u8) -> usize
-    ensures { AddsTo (text.register_text word n) line at result }
+fn put_register(line: &mut Line, word: bool, n: u8)
+    ensures { AddsTo (text.register_text word n) line }
 {
+    let names = register_names(word);
     let i = 2 * (n % 8) as usize;
-    let end = put_byte(line, at, letter(word, i));
-    put_byte(line, end, letter(word, i + 1))
+    line.push_bytes(&names[i..i + 2]);
 }
 
-fn put_segment(line: &mut [u8; 80], at: usize, n: u8) -> usize
-    ensures { AddsTo (text.segment_text n) line at result }
+fn segment_name(n: u8) -> &'static str
+    ensures { result.now ≡ text.segment_text n }
 {
-    let seg = n % 4;
-    if seg == 0 {
-        return put_word(line, at, b"DS1");
+    match n % 4 {
+        0 => "DS1",
+        1 => "PS",
+        2 => "SS",
+        _ => "DS0",
     }
-    if seg == 1 {
-        return put_word(line, at, b"PS");
-    }
-    if seg == 2 {
-        return put_word(line, at, b"SS");
-    }
-    put_word(line, at, b"DS0")
 }
 
-fn put_size(line: &mut [u8; 80], at: usize, size: Size) -> usize
-    ensures { AddsTo (text.size_text size) line at result }
+#[tactic(auto, unfolding(crate::specs::Operands::size_text))]
+fn size_name(size: Size) -> &'static str
+    ensures { result.now ≡ text.size_text size }
 {
     match size {
-        Size::Unsaid => at,
-        Size::Byte => put_word(line, at, b"BYTE "),
-        Size::Word => put_word(line, at, b"WORD "),
-        Size::Pair => put_word(line, at, b"DWORD "),
+        Size::Unsaid => "",
+        Size::Byte => "BYTE ",
+        Size::Word => "WORD ",
+        Size::Pair => "DWORD ",
     }
 }
 
-fn put_index(line: &mut [u8; 80], at: usize, index: Index) -> usize
-    ensures { AddsTo (text.index_text index) line at result }
+fn put_index(line: &mut Line, index: Option<u8>)
+    ensures { AddsTo (text.index_text index) line }
 {
-    match index {
-        Index::Of(n) => {
-            let end = put_byte(line, at, b'+');
-            put_register(line, end, true, n)
-        }
-        Index::Nothing => at,
+    if let Some(n) = index {
+        line.push(b'+');
+        put_register(line, true, n);
     }
 }
 
-fn put_form(line: &mut [u8; 80], at: usize, n: u8) -> usize
-    ensures { AddsTo (text.form_text (form_at n)) line at result }
+fn put_form(line: &mut Line, n: u8)
+    ensures { AddsTo (text.form_text (form_at n)) line }
 {
     let form = mach_forms::form_at(n);
-    let index = form.index;
-    let end = put_register(line, at, true, form.base);
-    put_index(line, end, index)
+    put_register(line, true, form.base);
+    put_index(line, form.index);
 }
 
-fn put_disp(line: &mut [u8; 80], at: usize, disp: u16) -> usize
-    ensures { AddsTo (text.disp_text disp) line at result }
+fn put_disp(line: &mut Line, disp: u16)
+    ensures { AddsTo (text.disp_text disp) line }
 {
-    if disp == 0 {
-        return at;
+    if disp != 0 {
+        line.push(b'+');
+        line.push_hex(disp as u64, 4);
     }
-    let end = put_byte(line, at, b'+');
-    put_hex(line, end, disp as u64, 4)
 }
 
 // A segment, up to the offset in it.
-fn put_within(line: &mut [u8; 80], at: usize, seg: u8) -> usize
-    ensures { AddsTo (text.opening seg) line at result }
+fn put_within(line: &mut Line, seg: u8)
+    ensures { AddsTo (text.opening seg) line }
 {
-    let end = put_segment(line, at, seg);
-    put_word(line, end, b":[")
+    line.push_str(segment_name(seg));
+    line.push_str(":[");
 }
 
-fn put_formed(line: &mut [u8; 80], at: usize, form: u8, disp: u16) -> usize
-    ensures { AddsTo (text.formed_text form disp) line at result }
+fn put_formed(line: &mut Line, form: u8, disp: u16)
+    ensures { AddsTo (text.formed_text form disp) line }
 {
-    let end = put_form(line, at, form);
-    put_disp(line, end, disp)
+    put_form(line, form);
+    put_disp(line, disp);
 }
 
-fn put_address(line: &mut [u8; 80], at: usize, a: Address) -> usize
-    ensures { AddsTo (text.address_text a) line at result }
+fn put_address(line: &mut Line, a: Address)
+    ensures { AddsTo (text.address_text a) line }
 {
     match a {
         Address::Formed { seg, form, disp } => {
-            let inside = put_within(line, at, seg);
-            let end = put_formed(line, inside, form, disp);
-            put_byte(line, end, b']')
+            put_within(line, seg);
+            put_formed(line, form, disp);
+            line.push(b']');
         }
         Address::Direct { seg, offset } => {
-            let inside = put_within(line, at, seg);
-            let end = put_hex(line, inside, offset as u64, 4);
-            put_byte(line, end, b']')
+            put_within(line, seg);
+            line.push_hex(offset as u64, 4);
+            line.push(b']');
         }
     }
 }
 
 // What an index register points to in a segment.
-fn put_block(line: &mut [u8; 80], at: usize, word: bool, seg: u8, by: u8) -> usize
-    ensures { AddsTo (text.operand_text (operand.Block word seg by)) line at result }
+fn put_block(line: &mut Line, word: bool, seg: u8, by: u8)
+    ensures { AddsTo (text.operand_text (operand.Block word seg by)) line }
 {
-    let a = put_size(line, at, size_of(word));
-    let b = put_within(line, a, seg);
-    let c = put_register(line, b, true, by);
-    put_byte(line, c, b']')
+    line.push_str(size_name(size_of(word)));
+    put_within(line, seg);
+    put_register(line, true, by);
+    line.push(b']');
 }
 
-fn put_value(line: &mut [u8; 80], at: usize, word: bool, value: u16) -> usize
-    ensures { AddsTo (text.operand_text (operand.Value word value)) line at result }
+fn put_value(line: &mut Line, word: bool, value: u16)
+    ensures { AddsTo (text.operand_text (operand.Value word value)) line }
 {
-    if word {
-        return put_hex(line, at, value as u64, 4);
-    }
-    put_hex(line, at, value as u64, 2)
+    let digits = if word { 4 } else { 2 };
+    line.push_hex(value as u64, digits);
 }
 
-fn put_far(line: &mut [u8; 80], at: usize, ps: u16, pc: u16) -> usize
-    ensures { AddsTo (text.operand_text (operand.Far ps pc)) line at result }
+fn put_far(line: &mut Line, ps: u16, pc: u16)
+    ensures { AddsTo (text.operand_text (operand.Far ps pc)) line }
 {
-    let a = put_hex(line, at, ps as u64, 4);
-    let b = put_byte(line, a, b':');
-    put_hex(line, b, pc as u64, 4)
+    line.push_hex(ps as u64, 4);
+    line.push(b':');
+    line.push_hex(pc as u64, 4);
 }
 
-fn put_operand(line: &mut [u8; 80], at: usize, o: Operand) -> usize
-    ensures { AddsTo (text.operand_text o) line at result }
+fn put_operand(line: &mut Line, o: Operand)
+    ensures { AddsTo (text.operand_text o) line }
 {
     match o {
-        Operand::Reg { word, number } => put_register(line, at, word, number),
-        Operand::Seg(n) => put_segment(line, at, n),
+        Operand::Reg { word, number } => put_register(line, word, number),
+        Operand::Seg(n) => line.push_str(segment_name(n)),
         Operand::Mem { size, address } => {
-            let end = put_size(line, at, size);
-            put_address(line, end, address)
+            line.push_str(size_name(size));
+            put_address(line, address);
         }
-        Operand::Block { word, seg, by } => put_block(line, at, word, seg, by),
-        Operand::Value { word, value } => put_value(line, at, word, value),
-        Operand::Once => put_byte(line, at, b'1'),
-        Operand::Target(a) => put_hex(line, at, a as u64, 5),
-        Operand::Far { ps, pc } => put_far(line, at, ps, pc),
+        Operand::Block { word, seg, by } => put_block(line, word, seg, by),
+        Operand::Value { word, value } => put_value(line, word, value),
+        Operand::Once => line.push(b'1'),
+        Operand::Target(a) => line.push_hex(a as u64, 5),
+        Operand::Far { ps, pc } => put_far(line, ps, pc),
     }
 }
 
 // ---- a mnemonic with its operands
 
 // What stands behind the mnemonic.
-pub fn put_after(line: &mut [u8; 80], at: usize, a: Operand) -> usize
-    ensures { AddsTo (words.after a) line at result }
+pub fn put_after(line: &mut Line, a: Operand)
+    ensures { AddsTo (words.after a) line }
 {
-    let x = put_byte(line, at, b' ');
-    put_operand(line, x, a)
+    line.push(b' ');
+    put_operand(line, a);
 }
 
-pub fn put_after_two(line: &mut [u8; 80], at: usize, a: Operand, b: Operand) -> usize
-    ensures { AddsTo (words.after_two a b) line at result }
+pub fn put_after_two(line: &mut Line, a: Operand, b: Operand)
+    ensures { AddsTo (words.after_two a b) line }
 {
-    let x = put_after(line, at, a);
-    let y = put_byte(line, x, b',');
-    put_operand(line, y, b)
+    put_after(line, a);
+    line.push(b',');
+    put_operand(line, b);
 }
 
-pub fn put_one(line: &mut [u8; 80], at: usize, name: &[u8], a: Operand) -> usize
-    ensures { AddsTo (words.one name.now a) line at result }
+pub fn put_one(line: &mut Line, name: &str, a: Operand)
+    ensures { AddsTo (words.one name.now a) line }
 {
-    let x = put_word(line, at, name);
-    put_after(line, x, a)
+    line.push_str(name);
+    put_after(line, a);
 }
 
-pub fn put_two(line: &mut [u8; 80], at: usize, name: &[u8], a: Operand, b: Operand) -> usize
-    ensures { AddsTo (words.two name.now a b) line at result }
+pub fn put_two(line: &mut Line, name: &str, a: Operand, b: Operand)
+    ensures { AddsTo (words.two name.now a b) line }
 {
-    let x = put_word(line, at, name);
-    put_after_two(line, x, a, b)
+    line.push_str(name);
+    put_after_two(line, a, b);
 }
 
-pub fn put_three(
-    line: &mut [u8; 80],
-    at: usize,
-    name: &[u8],
-    a: Operand,
-    b: Operand,
-    c: Operand,
-) -> usize
-    ensures { AddsTo (words.three name.now a b c) line at result }
+pub fn put_three(line: &mut Line, name: &str, a: Operand, b: Operand, c: Operand)
+    ensures { AddsTo (words.three name.now a b c) line }
 {
-    let x = put_word(line, at, name);
-    let y = put_after_two(line, x, a, b);
-    let z = put_byte(line, y, b',');
-    put_operand(line, z, c)
+    line.push_str(name);
+    put_after_two(line, a, b);
+    line.push(b',');
+    put_operand(line, c);
 }
 
 // ---- operands from those of an instruction
 
+#[tactic(auto, unfolding(crate::specs::Operands::size_of))]
 pub fn size_of(word: bool) -> Size
     ensures { result ≡ text.size_of word }
 {
     if word { Size::Word } else { Size::Byte }
 }
 
+#[tactic(auto, unfolding(crate::specs::Mnemonics::of_place))]
 pub fn of_place(word: bool, p: Place) -> Operand
     ensures { result ≡ words.of_place word p }
 {
@@ -262,6 +244,7 @@ pub fn of_place(word: bool, p: Place) -> Operand
     }
 }
 
+#[tactic(auto, unfolding(crate::specs::Mnemonics::of_source))]
 fn of_source(word: bool, s: Source) -> Operand
     ensures { result ≡ words.of_source word s }
 {
@@ -271,6 +254,7 @@ fn of_source(word: bool, s: Source) -> Operand
     }
 }
 
+#[tactic(auto, unfolding(crate::specs::Mnemonics::of_amount))]
 pub fn of_amount(a: Amount) -> Operand
     ensures { result ≡ words.of_amount a }
 {
@@ -286,6 +270,7 @@ pub fn of_amount(a: Amount) -> Operand
     }
 }
 
+#[tactic(auto, unfolding(crate::specs::Mnemonics::of_places))]
 pub fn of_places(p: Places) -> Operand
     ensures { result ≡ words.of_places p }
 {
@@ -295,6 +280,7 @@ pub fn of_places(p: Places) -> Operand
     }
 }
 
+#[tactic(auto, unfolding(crate::specs::Mnemonics::of_length))]
 pub fn of_length(n: Length) -> Operand
     ensures { result ≡ words.of_length n }
 {
@@ -310,14 +296,12 @@ pub fn of_length(n: Length) -> Operand
     }
 }
 
+#[tactic(auto, unfolding(crate::specs::Mnemonics::of_port))]
 pub fn of_port(p: Port) -> Operand
     ensures { result ≡ words.of_port p }
 {
     match p {
-        Port::InDw => Operand::Reg {
-            word: true,
-            number: 2,
-        },
+        Port::InDw => in_dw(),
         Port::Numbered(n) => Operand::Value {
             word: false,
             value: n as u16,
@@ -336,53 +320,82 @@ pub fn target(next: u32, disp: u16) -> Operand
     Operand::Target(((past + 0xf0000) % 0x100000) as u32)
 }
 
+// ---- operands that instructions name by themselves
+
+// The numbers of AW, DW, BW, IX and IY, and of the segment DS1.
+const AW: u8 = 0;
+
+const DW: u8 = 2;
+
+const BW: u8 = 3;
+
+const IX: u8 = 6;
+
+const IY: u8 = 7;
+
+const DS1: u8 = 0;
+
+// AL or AW.
+pub fn acc(word: bool) -> Operand
+    ensures { result ≡ words.acc word }
+{
+    Operand::Reg { word, number: AW }
+}
+
+// The register that holds a port's number.
+pub fn in_dw() -> Operand
+    ensures { result ≡ words.in_dw }
+{
+    Operand::Reg {
+        word: true,
+        number: DW,
+    }
+}
+
+// Strings and blocks: what is written, by IY in DS1, and what is read, by IX in a segment.
+pub fn written(word: bool) -> Operand
+    ensures { result ≡ words.in_ds1 word }
+{
+    Operand::Block {
+        word,
+        seg: DS1,
+        by: IY,
+    }
+}
+
+pub fn read(word: bool, seg: u8) -> Operand
+    ensures { result ≡ words.from word seg }
+{
+    Operand::Block { word, seg, by: IX }
+}
+
+// The table of TRANS.
+pub fn table(seg: u8) -> Operand
+    ensures { result ≡ operand.Block false seg registers.BW }
+{
+    Operand::Block {
+        word: false,
+        seg,
+        by: BW,
+    }
+}
+
 // ---- the operands that most instructions have
 
-pub fn put_after_place(line: &mut [u8; 80], at: usize, word: bool, p: Place) -> usize
-    ensures { AddsTo (words.after (words.of_place word p)) line at result }
+pub fn put_place(line: &mut Line, name: &str, word: bool, p: Place)
+    ensures { AddsTo (words.one name.now (words.of_place word p)) line }
 {
-    let o = of_place(word, p);
-    put_after(line, at, o)
+    put_one(line, name, of_place(word, p));
 }
 
-pub fn put_place(line: &mut [u8; 80], at: usize, name: &[u8], word: bool, p: Place) -> usize
-    ensures { AddsTo (words.one name.now (words.of_place word p)) line at result }
+pub fn put_place_source(line: &mut Line, name: &str, word: bool, to: Place, from: Source)
+    ensures { AddsTo (words.two name.now (words.of_place word to) (words.of_source word from)) line }
 {
-    let x = put_word(line, at, name);
-    put_after_place(line, x, word, p)
+    put_two(line, name, of_place(word, to), of_source(word, from));
 }
 
-pub fn put_after_place_source(
-    line: &mut [u8; 80],
-    at: usize,
-    word: bool,
-    to: Place,
-    from: Source,
-) -> usize
-    ensures { AddsTo (words.after_two (words.of_place word to) (words.of_source word from)) line at result }
+pub fn put_target(line: &mut Line, name: &str, next: u32, disp: u16)
+    ensures { AddsTo (words.one name.now (words.target next disp)) line }
 {
-    let a = of_place(word, to);
-    let b = of_source(word, from);
-    put_after_two(line, at, a, b)
-}
-
-pub fn put_place_source(
-    line: &mut [u8; 80],
-    at: usize,
-    name: &[u8],
-    word: bool,
-    to: Place,
-    from: Source,
-) -> usize
-    ensures { AddsTo (words.two name.now (words.of_place word to) (words.of_source word from)) line at result }
-{
-    let x = put_word(line, at, name);
-    put_after_place_source(line, x, word, to, from)
-}
-
-pub fn put_target(line: &mut [u8; 80], at: usize, name: &[u8], next: u32, disp: u16) -> usize
-    ensures { AddsTo (words.one name.now (words.target next disp)) line at result }
-{
-    let o = target(next, disp);
-    put_one(line, at, name, o)
+    put_one(line, name, target(next, disp));
 }

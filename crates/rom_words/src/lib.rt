@@ -1,226 +1,168 @@
 // The words of every instruction.
 #![tactic(auto)]
 
-ghost use Rattle.std.specs.Prelude.{◌≡◌, ◌++◌};
+ghost use Rattle.std.specs.Prelude.{◌≡◌, ◌++◌, true, false};
 ghost use Rattle.base_line.specs.Adds.{AddsTo};
+ghost use Rattle.rom_mnemonic.specs.declared.Operand.TheVariants.{Value};
 ghost use Rattle.rom_mnemonic.specs.Mnemonics as words;
 
-use base_line::put_word;
+use base_line::Line;
 use rom_compute_words::put_compute;
-use rom_mnemonic::{Operand, Size, of_place, of_port, put_one, put_place, put_three, put_two};
+use rom_mnemonic::{
+    Operand, Size, acc, in_dw, of_place, of_port, put_one, put_place, put_three, put_two, read,
+    written,
+};
 use rom_move_words::put_move;
 use sheet::{Control, Instr, Interrupt, Io, Mode, Multiply, Place, Primitive, Repeat};
 
-// AL or AW, the port's register, the index registers of blocks, and the segment of the block that is written.
-const ACC: u8 = 0;
-
-const DW: u8 = 2;
-
-const IX: u8 = 6;
-
-const IY: u8 = 7;
-
-const DS1: u8 = 0;
-
-fn put_product(line: &mut [u8; 80], at: usize, reg: u8, from: Place, by: u16) -> usize
-    ensures { AddsTo (words.product_text reg from by) line at result }
+fn put_product(line: &mut Line, reg: u8, from: Place, by: u16)
+    ensures { AddsTo (words.product_text reg from by) line }
 {
-    let o = of_place(true, from);
-    put_three(
-        line,
-        at,
-        b"MUL",
-        Operand::Reg {
-            word: true,
-            number: reg,
-        },
-        o,
-        Operand::Value {
-            word: true,
-            value: by,
-        },
-    )
+    let to = Operand::Reg {
+        word: true,
+        number: reg,
+    };
+    let factor = Operand::Value {
+        word: true,
+        value: by,
+    };
+    put_three(line, "MUL", to, of_place(true, from), factor);
 }
 
-fn put_multiply(line: &mut [u8; 80], at: usize, i: Multiply) -> usize
-    ensures { AddsTo (words.multiply_text i) line at result }
+fn put_multiply(line: &mut Line, i: Multiply)
+    ensures { AddsTo (words.multiply_text i) line }
 {
     match i {
-        Multiply::Mulu { word, by } => put_place(line, at, b"MULU", word, by),
-        Multiply::Mul { word, by } => put_place(line, at, b"MUL", word, by),
-        Multiply::MulByte { reg, from, by } => put_product(line, at, reg, from, by),
-        Multiply::MulWord { reg, from, by } => put_product(line, at, reg, from, by),
-        Multiply::Divu { word, by } => put_place(line, at, b"DIVU", word, by),
-        Multiply::Div { word, by } => put_place(line, at, b"DIV", word, by),
+        Multiply::Mulu { word, by } => put_place(line, "MULU", word, by),
+        Multiply::Mul { word, by } => put_place(line, "MUL", word, by),
+        Multiply::MulByte { reg, from, by } => put_product(line, reg, from, by),
+        Multiply::MulWord { reg, from, by } => put_product(line, reg, from, by),
+        Multiply::Divu { word, by } => put_place(line, "DIVU", word, by),
+        Multiply::Div { word, by } => put_place(line, "DIV", word, by),
     }
 }
 
-fn put_interrupt(line: &mut [u8; 80], at: usize, i: Interrupt) -> usize
-    ensures { AddsTo (words.interrupt_text i) line at result }
+// The vector of an instruction that breaks.
+fn vector_of(vector: u8) -> Operand
+    ensures { result ≡ Value false vector }
+{
+    Operand::Value {
+        word: false,
+        value: vector as u16,
+    }
+}
+
+fn put_interrupt(line: &mut Line, i: Interrupt)
+    ensures { AddsTo (words.interrupt_text i) line }
 {
     match i {
-        Interrupt::Brk3 => put_word(line, at, b"BRK 3"),
-        Interrupt::Brk { vector } => put_one(
-            line,
-            at,
-            b"BRK",
-            Operand::Value {
-                word: false,
-                value: vector as u16,
-            },
-        ),
-        Interrupt::Brkv => put_word(line, at, b"BRKV"),
-        Interrupt::Chkind { reg, from } => put_two(
-            line,
-            at,
-            b"CHKIND",
-            Operand::Reg {
+        Interrupt::Brk3 => line.push_str("BRK 3"),
+        Interrupt::Brk { vector } => put_one(line, "BRK", vector_of(vector)),
+        Interrupt::Brkv => line.push_str("BRKV"),
+        Interrupt::Chkind { reg, from } => {
+            let index = Operand::Reg {
                 word: true,
                 number: reg,
-            },
-            Operand::Mem {
+            };
+            let bounds = Operand::Mem {
                 size: Size::Pair,
                 address: from,
-            },
-        ),
+            };
+            put_two(line, "CHKIND", index, bounds);
+        }
     }
 }
 
-fn put_mode(line: &mut [u8; 80], at: usize, i: Mode) -> usize
-    ensures { AddsTo (words.mode_text i) line at result }
+fn put_mode(line: &mut Line, i: Mode)
+    ensures { AddsTo (words.mode_text i) line }
 {
     match i {
-        Mode::PopPsw => put_word(line, at, b"POP PSW"),
-        Mode::Reti => put_word(line, at, b"RETI"),
-        Mode::Brkem { vector } => put_one(
-            line,
-            at,
-            b"BRKEM",
-            Operand::Value {
-                word: false,
-                value: vector as u16,
-            },
-        ),
+        Mode::PopPsw => line.push_str("POP PSW"),
+        Mode::Reti => line.push_str("RETI"),
+        Mode::Brkem { vector } => put_one(line, "BRKEM", vector_of(vector)),
     }
 }
 
-fn put_repeat(line: &mut [u8; 80], at: usize, r: Repeat) -> usize
-    ensures { AddsTo (words.repeat_text r) line at result }
+#[tactic(auto, unfolding(rom_mnemonic::specs::Mnemonics::repeat_text))]
+fn repeat_name(r: Repeat) -> &'static str
+    ensures { result.now ≡ words.repeat_text r }
 {
     match r {
-        Repeat::Once => at,
-        Repeat::WhileZ => put_word(line, at, b"REP "),
-        Repeat::WhileNotZ => put_word(line, at, b"REPNE "),
-        Repeat::WhileCy => put_word(line, at, b"REPC "),
-        Repeat::WhileNotCy => put_word(line, at, b"REPNC "),
+        Repeat::Once => "",
+        Repeat::WhileZ => "REP ",
+        Repeat::WhileNotZ => "REPNE ",
+        Repeat::WhileCy => "REPC ",
+        Repeat::WhileNotCy => "REPNC ",
     }
 }
 
-// What is written, by IY in DS1, and what is read, by IX in a segment.
-fn written(word: bool) -> Operand
-    ensures { result ≡ words.in_ds1 word }
-{
-    Operand::Block {
-        word,
-        seg: DS1,
-        by: IY,
-    }
-}
-
-fn read(word: bool, seg: u8) -> Operand
-    ensures { result ≡ words.from word seg }
-{
-    Operand::Block { word, seg, by: IX }
-}
-
-fn port() -> Operand
-    ensures { result ≡ words.in_dw }
-{
-    Operand::Reg {
-        word: true,
-        number: DW,
-    }
-}
-
-fn put_primitive(line: &mut [u8; 80], at: usize, p: Primitive, word: bool, seg: u8) -> usize
-    ensures { AddsTo (words.primitive_text p word seg) line at result }
+fn put_primitive(line: &mut Line, p: Primitive, word: bool, seg: u8)
+    ensures { AddsTo (words.primitive_text p word seg) line }
 {
     let to = written(word);
     let from = read(word, seg);
     match p {
-        Primitive::Movbk => put_two(line, at, b"MOVBK", to, from),
-        Primitive::Cmpbk => put_two(line, at, b"CMPBK", from, to),
-        Primitive::Cmpm => put_one(line, at, b"CMPM", to),
-        Primitive::Ldm => put_one(line, at, b"LDM", from),
-        Primitive::Stm => put_one(line, at, b"STM", to),
-        Primitive::Inm => put_two(line, at, b"INM", to, port()),
-        Primitive::Outm => put_two(line, at, b"OUTM", port(), from),
+        Primitive::Movbk => put_two(line, "MOVBK", to, from),
+        Primitive::Cmpbk => put_two(line, "CMPBK", from, to),
+        Primitive::Cmpm => put_one(line, "CMPM", to),
+        Primitive::Ldm => put_one(line, "LDM", from),
+        Primitive::Stm => put_one(line, "STM", to),
+        Primitive::Inm => put_two(line, "INM", to, in_dw()),
+        Primitive::Outm => put_two(line, "OUTM", in_dw(), from),
     }
 }
 
-fn put_blocks(
-    line: &mut [u8; 80],
-    at: usize,
-    p: Primitive,
-    word: bool,
-    seg: u8,
-    repeat: Repeat,
-) -> usize
-    ensures { AddsTo (words.repeat_text repeat ++ words.primitive_text p word seg) line at result }
+fn put_blocks(line: &mut Line, p: Primitive, word: bool, seg: u8, repeat: Repeat)
+    ensures { AddsTo (words.repeat_text repeat ++ words.primitive_text p word seg) line }
 {
-    let x = put_repeat(line, at, repeat);
-    put_primitive(line, x, p, word, seg)
+    line.push_str(repeat_name(repeat));
+    put_primitive(line, p, word, seg);
 }
 
-fn put_port(line: &mut [u8; 80], at: usize, i: Io) -> usize
-    ensures { AddsTo (words.port_text i) line at result }
+fn put_port(line: &mut Line, i: Io)
+    ensures { AddsTo (words.port_text i) line }
 {
     match i {
-        Io::In { word, port } => {
-            let o = of_port(port);
-            put_two(line, at, b"IN", Operand::Reg { word, number: ACC }, o)
-        }
-        Io::Out { word, port } => {
-            let o = of_port(port);
-            put_two(line, at, b"OUT", o, Operand::Reg { word, number: ACC })
-        }
+        Io::In { word, port } => put_two(line, "IN", acc(word), of_port(port)),
+        Io::Out { word, port } => put_two(line, "OUT", of_port(port), acc(word)),
     }
 }
 
-fn put_control(line: &mut [u8; 80], at: usize, i: Control) -> usize
-    ensures { AddsTo (words.control_text i) line at result }
+#[tactic(auto, unfolding(rom_mnemonic::specs::Mnemonics::control_text))]
+fn control_name(i: Control) -> &'static str
+    ensures { result.now ≡ words.control_text i }
 {
     match i {
-        Control::Nop => put_word(line, at, b"NOP"),
-        Control::Halt => put_word(line, at, b"HALT"),
-        Control::Di => put_word(line, at, b"DI"),
-        Control::Ei => put_word(line, at, b"EI"),
-        Control::ClrCy => put_word(line, at, b"CLR1 CY"),
-        Control::SetCy => put_word(line, at, b"SET1 CY"),
-        Control::NotCy => put_word(line, at, b"NOT1 CY"),
-        Control::ClrDir => put_word(line, at, b"CLR1 DIR"),
-        Control::SetDir => put_word(line, at, b"SET1 DIR"),
+        Control::Nop => "NOP",
+        Control::Halt => "HALT",
+        Control::Di => "DI",
+        Control::Ei => "EI",
+        Control::ClrCy => "CLR1 CY",
+        Control::SetCy => "SET1 CY",
+        Control::NotCy => "NOT1 CY",
+        Control::ClrDir => "CLR1 DIR",
+        Control::SetDir => "SET1 DIR",
     }
 }
 
 // With the address of the next instruction.
-pub fn put_instr(line: &mut [u8; 80], at: usize, next: u32, i: Instr) -> usize
-    ensures { AddsTo (words.instr_text next i) line at result }
+pub fn put_instr(line: &mut Line, next: u32, i: Instr)
+    ensures { AddsTo (words.instr_text next i) line }
 {
     match i {
-        Instr::Computes(i) => put_compute(line, at, i),
-        Instr::Moves(i) => put_move(line, at, next, i),
-        Instr::Multiplies(i) => put_multiply(line, at, i),
-        Instr::Interrupts(i) => put_interrupt(line, at, i),
+        Instr::Computes(i) => put_compute(line, i),
+        Instr::Moves(i) => put_move(line, next, i),
+        Instr::Multiplies(i) => put_multiply(line, i),
+        Instr::Interrupts(i) => put_interrupt(line, i),
         Instr::Blocks {
             primitive,
             word,
             seg,
             repeat,
-        } => put_blocks(line, at, primitive, word, seg, repeat),
-        Instr::Ports(i) => put_port(line, at, i),
-        Instr::Controls(i) => put_control(line, at, i),
-        Instr::Modes(i) => put_mode(line, at, i),
-        Instr::Cards(i) => put_word(line, at, b"8080"),
+        } => put_blocks(line, primitive, word, seg, repeat),
+        Instr::Ports(i) => put_port(line, i),
+        Instr::Controls(i) => line.push_str(control_name(i)),
+        Instr::Modes(i) => put_mode(line, i),
+        Instr::Cards(_) => line.push_str("8080"),
     }
 }

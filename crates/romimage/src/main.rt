@@ -1,6 +1,7 @@
 // Rebuilds a ROM image from the lines of its listing on standard input.
 #![tactic(auto)]
 
+use sheet::Refusal;
 use std::io::Print;
 
 fn image_buffer() -> [u8; 32768] {
@@ -15,17 +16,16 @@ fn say(rt: HostRuntime, text: &[u8]) {
 fn print_image(rt: HostRuntime, lines: &[u8]) {
     let mut scratch = image_buffer();
     let mut out = image_buffer();
-    let r = rom_list::rebuild::rebuild(lines, &mut scratch, &mut out);
-    if r.number == 16 {
-        say(rt, b"romimage: 16: these are not the lines of a listing\n");
-        return;
-    }
-    if r.number != 0 {
-        say(rt, b"romimage: 6: the image is too long\n");
-        return;
-    }
-    if rt.stdout().write_all(&out[..r.len]).is_err() {
-        say(rt, b"romimage: cannot write the image\n");
+    match rom_list::rebuild::rebuild(lines, &mut scratch, &mut out) {
+        Ok(len) => {
+            if rt.stdout().write_all(&out[..len]).is_err() {
+                say(rt, b"romimage: cannot write the image\n");
+            }
+        }
+        Err(Refusal::NotAListing) => {
+            say(rt, b"romimage: 16: these are not the lines of a listing\n");
+        }
+        Err(_) => say(rt, b"romimage: 6: the image is too long\n"),
     }
 }
 

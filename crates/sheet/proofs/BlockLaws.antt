@@ -3,7 +3,7 @@ use Prim.Native.Nat.{ℕ, zero, suc, ◌+◌, ◌≤◌, ◌<◌}
 use mathlib.Core.Path.{◌≡◌, refl, ◌∙◌}
 use mathlib.Core.Bool.{Bool, true, false}
 use mathlib.Core.List.{List, [], ◌∷◌, ◌++◌}
-use mathlib.Core.Option.{none, some}
+use Rattle.std.specs.Prelude.{None, Some}
 use native.Mathlib.Nat.{add-zero, add_assoc, add_comm}
 use native.Mathlib.Numerals.{add-one}
 use native.Mathlib.Omega.{arith}
@@ -27,7 +27,7 @@ use Rattle.sheet.specs.Step.{fits, sound, source, stepping, starting, decoded, a
 -- prefix bytes, read after p, leave q
 pub data Prefixing : List ℕ → Prefixes → Prefixes → Type 0 where
   no_prefix : {p : Prefixes} → Prefixing [] p p
-  one_prefix : {b : ℕ} {l : List ℕ} {p q : Prefixes} (x : Prefix) → prefix_of b ≡ some x → Prefixing l (with_prefix p x) q → Prefixing (b ∷ l) p q
+  one_prefix : {b : ℕ} {l : List ℕ} {p q : Prefixes} (x : Prefix) → prefix_of b ≡ Some x → Prefixing l (with_prefix p x) q → Prefixing (b ∷ l) p q
 
 -- the code of a primitive
 abbrev pub block_code : Primitive → Bool → ℕ
@@ -59,16 +59,16 @@ scan_next : (room : ℕ) (p : Prefixes) (src : ℕ → ℕ) (i : ℕ)
 unfolding scan prefixed reading.◌>>=◌
 scan_next room p src i = refl
 
-none_after : (b : ℕ) (k : Prefix → Reading Instr) (other : Reading Instr) → prefix_of b ≡ none → after_prefix (prefix_of b) k other ≡ other
+none_after : (b : ℕ) (k : Prefix → Reading Instr) (other : Reading Instr) → prefix_of b ≡ None → after_prefix (prefix_of b) k other ≡ other
 unfolding after_prefix
 none_after b k other e = rw e
 
-some_after : (b : ℕ) (x : Prefix) (k : Prefix → Reading Instr) (other : Reading Instr) → prefix_of b ≡ some x → after_prefix (prefix_of b) k other ≡ k x
+some_after : (b : ℕ) (x : Prefix) (k : Prefix → Reading Instr) (other : Reading Instr) → prefix_of b ≡ Some x → after_prefix (prefix_of b) k other ≡ k x
 unfolding after_prefix
 some_after b x k other e = rw e
 
 -- prefixes are passed over: what counts is what they leave
-pub scan_prefixes : {l : List ℕ} {p q : Prefixes} (b room : ℕ) (src : ℕ → ℕ) (i : ℕ) → Prefixing l p q → length l ≤ room → prefix_of b ≡ none → Begins (l ++ (b ∷ [])) src i
+pub scan_prefixes : {l : List ℕ} {p q : Prefixes} (b room : ℕ) (src : ℕ → ℕ) (i : ℕ) → Prefixing l p q → length l ≤ room → prefix_of b ≡ None → Begins (l ++ (b ∷ [])) src i
     → scan (prefixed room p) src i ≡ scan (look_up (first_bytes q) b) src (i + length l + 1)
 scan_prefixes {p = p} b zero src i no_prefix r e h =
     scan_last p src i ∙ rw (first_is b [] src i h, none_after b (λ x. no 4) (look_up (first_bytes p) b) e, add-zero i)
@@ -81,7 +81,7 @@ scan_prefixes {p = p} {q = q} b (suc room) src i (one_prefix {b = c} {l = l} x y
     (scan_prefixes b room src (i + 1) z (omega arith) e (others_are c (l ++ (b ∷ [])) src i h)
     ∙ rw (add_assoc i 1 (length l), add_comm 1 (length l), add-one (length l)))
 
-code_read : (k : Primitive) (w : Bool) (q : Prefixes) → (prefix_of (block_code k w) ≡ none) × (look_up (first_bytes q) (block_code k w) ≡ got (Blocks k w (seg_or q.seg in_ds0) q.repeat))
+code_read : (k : Primitive) (w : Bool) (q : Prefixes) → (prefix_of (block_code k w) ≡ None) × (look_up (first_bytes q) (block_code k w) ≡ got (Blocks k w (seg_or q.seg in_ds0) q.repeat))
 unfolding prefix_of look_up
 code_read Movbk true q = (refl, refl)
 code_read Movbk false q = (refl, refl)

@@ -3,7 +3,7 @@ use Prim.Native.Nat.{ℕ, zero, suc, ◌+◌}
 use mathlib.Core.Path.{◌≡◌, refl}
 use mathlib.Core.Bool.{Bool, true, false}
 use mathlib.Core.List.{List, [], ◌∷◌, ◌++◌}
-use mathlib.Core.Option.{Option, none, some}
+use Rattle.std.specs.Prelude.{Option, None, Some}
 use lib.Dec.{eqb}
 use Rattle.sheet.specs.declared.Instr.{Instr}
 use Rattle.sheet.specs.Width.{pick, sign_of, extend}
@@ -101,8 +101,8 @@ second_forms =
 
 -- the bytes that are prefixes, below n, the last first
 unfoldable pub is_prefix : Option Prefix → Bool
-is_prefix none = false
-is_prefix (some q) = true
+is_prefix None = false
+is_prefix (Some q) = true
 
 unfoldable pub prefixes : ℕ → List ℕ
 prefixes zero = []

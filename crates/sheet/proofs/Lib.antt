@@ -16,3 +16,4 @@ pub mod Replay
 pub mod CardForms
 pub mod CardExamples
 pub mod CardRows
+pub mod RefusalLaws

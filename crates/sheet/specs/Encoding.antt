@@ -1,13 +1,10 @@
 -- Instruction bytes: prefixes, the mod-reg-mem byte, and how a table of codes is read.
 -- 001:1045-1191; 01:18, 23
-use Rattle.std.specs.Prelude.{ℕ, ◌+◌, ◌/◌, ◌%◌, Bool, ◌&&◌, List, [], ◌∷◌, eqb, leb, ltb}
-use Rattle.std.proofs.Math.Option.{Option, none, some}
+use Rattle.std.specs.Prelude.{ℕ, ◌+◌, ◌/◌, ◌%◌, Bool, ◌&&◌, List, [], ◌∷◌, eqb, leb, ltb, Option, Some, None}
 use Rattle.sheet.specs.declared.Address.{Address}
 use Rattle.sheet.specs.declared.Address.TheVariants.{Formed, Direct}
 use Rattle.sheet.specs.declared.Place.{Place}
 use Rattle.sheet.specs.declared.Place.TheVariants.{Register, Memory}
-use Rattle.sheet.specs.declared.Override.{Override}
-use Rattle.sheet.specs.declared.Override.TheVariants.{Usual, Named}
 use Rattle.sheet.specs.declared.Prefixes.{Prefixes}
 use Rattle.sheet.specs.declared.Repeat.{Repeat}
 use Rattle.sheet.specs.declared.Repeat.TheVariants.{Once, WhileZ, WhileNotZ, WhileCy, WhileNotCy}
@@ -28,29 +25,29 @@ pub data Prefix : Type 0 where
 -- the prefix that a byte is, if any
 unfoldable pub prefix_of : ℕ → Option Prefix
 prefix_of b =
-    pick (eqb b 0x26) (some (segment_prefix in_ds1))
-    (pick (eqb b 0x2e) (some (segment_prefix in_ps))
-    (pick (eqb b 0x36) (some (segment_prefix in_ss))
-    (pick (eqb b 0x3e) (some (segment_prefix in_ds0))
-    (pick (eqb b 0x64) (some (repeat_prefix WhileNotCy))
-    (pick (eqb b 0x65) (some (repeat_prefix WhileCy))
-    (pick (eqb b 0xf0) (some lock_prefix)
-    (pick (eqb b 0xf2) (some (repeat_prefix WhileNotZ))
-    (pick (eqb b 0xf3) (some (repeat_prefix WhileZ)) none))))))))
+    pick (eqb b 0x26) (Some (segment_prefix in_ds1))
+    (pick (eqb b 0x2e) (Some (segment_prefix in_ps))
+    (pick (eqb b 0x36) (Some (segment_prefix in_ss))
+    (pick (eqb b 0x3e) (Some (segment_prefix in_ds0))
+    (pick (eqb b 0x64) (Some (repeat_prefix WhileNotCy))
+    (pick (eqb b 0x65) (Some (repeat_prefix WhileCy))
+    (pick (eqb b 0xf0) (Some lock_prefix)
+    (pick (eqb b 0xf2) (Some (repeat_prefix WhileNotZ))
+    (pick (eqb b 0xf3) (Some (repeat_prefix WhileZ)) None))))))))
 
 abbrev pub unprefixed : Prefixes
-unprefixed = record { seg = Usual; repeat = Once }
+unprefixed = record { seg = None; repeat = Once }
 
 -- of two alike in kind the last counts; the lock has no effect
 abbrev pub with_prefix : Prefixes → Prefix → Prefixes
-with_prefix p (segment_prefix n) = record { seg = Named n; repeat = p.repeat }
+with_prefix p (segment_prefix n) = record { seg = Some n; repeat = p.repeat }
 with_prefix p (repeat_prefix q) = record { seg = p.seg; repeat = q }
 with_prefix p lock_prefix = p
 
 -- the segment that counts, where it would be `usual`
-abbrev pub seg_or : Override → ℕ → ℕ
-seg_or Usual usual = usual
-seg_or (Named n) usual = n
+abbrev pub seg_or : Option ℕ → ℕ → ℕ
+seg_or None usual = usual
+seg_or (Some n) usual = n
 
 -- ---- mod reg mem
 

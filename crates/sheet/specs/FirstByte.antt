@@ -1,7 +1,6 @@
 -- The first bytes of instructions, in their order, and an instruction with its prefixes.
 -- 001:1233-1659 by their codes, 000:917-1344 where these cannot be read; 01:9, 23, 50
-use Rattle.std.specs.Prelude.{ℕ, zero, suc, ◌+◌, ◌%◌, Bool, true, false, not, ◌&&◌, List, [], ◌∷◌, ◌++◌, eqb, ltb, get_or}
-use Rattle.std.proofs.Math.Option.{Option, none, some}
+use Rattle.std.specs.Prelude.{ℕ, zero, suc, ◌+◌, ◌%◌, Bool, true, false, not, ◌&&◌, List, [], ◌∷◌, ◌++◌, eqb, ltb, get_or, Option, Some, None}
 use Rattle.sheet.specs.declared.Address.{Address}
 use Rattle.sheet.specs.declared.Place.{Place}
 use Rattle.sheet.specs.declared.Place.TheVariants.{Register}
@@ -95,16 +94,16 @@ with_immediate p b =
 
 -- a shift by its reg field: 6 is unknown
 abbrev pub shifts : List (Option Shift)
-shifts = some Rol ∷ some Ror ∷ some Rolc ∷ some Rorc ∷ some Shl ∷ some Shr ∷ none ∷ some Shra ∷ []
+shifts = Some Rol ∷ Some Ror ∷ Some Rolc ∷ Some Rorc ∷ Some Shl ∷ Some Shr ∷ None ∷ Some Shra ∷ []
 
 unfoldable pub with_shift : Option Shift → (Shift → Reading Instr) → Reading Instr
-with_shift none k = no 3
-with_shift (some s) k = k s
+with_shift None k = no 3
+with_shift (Some s) k = k s
 
 unfoldable pub shift_group : Prefixes → Reading Places → ℕ → Reading Instr
 shift_group p count b = do
   m ← byte
-  with_shift (get_or shifts (reg_field m) none) (λ s. do
+  with_shift (get_or shifts (reg_field m) None) (λ s. do
     a ← place p m
     c ← count
     got (Shifts s (W b) a c))
@@ -347,8 +346,8 @@ first_bytes p = bytes00 p ++ (bytes40 p ++ (bytes80 p ++ bytes_c0 p))
 -- ---- an instruction with its prefixes
 
 unfoldable pub after_prefix : Option Prefix → (Prefix → Reading Instr) → Reading Instr → Reading Instr
-after_prefix none k other = other
-after_prefix (some q) k other = k q
+after_prefix None k other = other
+after_prefix (Some q) k other = k q
 
 -- with room for so many prefixes more: a fourth is refused
 unfoldable pub prefixed : ℕ → Prefixes → Reading Instr

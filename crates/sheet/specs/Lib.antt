@@ -1,4 +1,5 @@
 pub mod Width
+pub mod Refusals
 pub mod Psw
 pub mod Registers
 pub mod Memory

@@ -1,13 +1,12 @@
 -- MULU, MUL, DIVU, DIV.
 -- 001:1341-1370; 000:1029-1058; 01:56
-use Rattle.std.specs.Prelude.{Bool, true, false, not, ◌&&◌, ℕ, ◌+◌, ◌*◌, ◌/◌, ◌%◌, eqb, ltb, ℤ, pos, ◌-ℤ◌, ◌*ℤ◌}
+use Rattle.std.specs.Prelude.{Bool, true, false, not, ◌&&◌, ℕ, ◌+◌, ◌*◌, ◌/◌, ◌%◌, eqb, ltb, ℤ, pos, ◌-ℤ◌, ◌*ℤ◌, Option, Some, None}
 use Rattle.std.specs.Int.Signed.{quot_z, rem_z, lt_z, le_z}
 use Rattle.sheet.specs.declared.Multiply.{Multiply}
 use Rattle.sheet.specs.declared.Multiply.TheVariants.{Mulu, Mul, MulByte, MulWord, Divu, Div}
 use Rattle.sheet.specs.declared.Place.{Place}
 use Rattle.sheet.specs.declared.Product.{Product}
-use Rattle.sheet.specs.declared.Divided.{Divided}
-use Rattle.sheet.specs.declared.Divided.TheVariants.{Quotient, Trap}
+use Rattle.sheet.specs.declared.Quotient.{Quotient}
 use Rattle.sheet.specs.Width.{pick, mod_of, half_of, wrap_of, signed_of, bits32}
 use Rattle.sheet.specs.Psw.{unknown, becomes, Column, columns}
 use Rattle.sheet.specs.Registers.{AW, DW, File}
@@ -66,10 +65,14 @@ mul_by reg from by = do
 
 -- ---- quotients
 
-unfoldable pub unsigned_quotient : Bool → ℕ → ℕ → Divided
+-- where there is none a trap is taken
+abbrev pub gives : ℕ → ℕ → Option Quotient
+gives q m = Some (record { quotient = q; remainder = m })
+
+unfoldable pub unsigned_quotient : Bool → ℕ → ℕ → Option Quotient
 unsigned_quotient w a b =
     let k : ℕ = wrap_of w b in
-    pick (eqb k 0) Trap (pick (ltb (a / k) (mod_of w)) (Quotient (a / k) (a % k)) Trap)
+    pick (eqb k 0) None (pick (ltb (a / k) (mod_of w)) (gives (a / k) (a % k)) None)
 
 -- the quotients that stand: -7FFFh to 7FFFh, or -7Fh to 7Fh
 unfoldable pub stands : Bool → ℤ → Bool
@@ -79,17 +82,17 @@ stands w q = lt_z (pos 0 -ℤ pos (half_of w)) q && lt_z q (pos (half_of w))
 unfoldable pub bits_of : Bool → ℤ → ℕ
 bits_of w z = wrap_of w (bits32 z)
 
-unfoldable pub quoted : Bool → ℤ → ℤ → Divided
-quoted w n d = pick (stands w (quot_z n d)) (Quotient (bits_of w (quot_z n d)) (bits_of w (rem_z n d))) Trap
+unfoldable pub quoted : Bool → ℤ → ℤ → Option Quotient
+quoted w n d = pick (stands w (quot_z n d)) (gives (bits_of w (quot_z n d)) (bits_of w (rem_z n d))) None
 
 -- half of all dividends, which have twice the width
 abbrev pub span_of : Bool → ℕ
 span_of w = pick w 2147483648 32768
 
 -- truncated toward zero, the remainder with the dividend's sign
-unfoldable pub signed_quotient : Bool → ℕ → ℕ → Divided
+unfoldable pub signed_quotient : Bool → ℕ → ℕ → Option Quotient
 signed_quotient w a b =
-    pick (eqb (wrap_of w b) 0) Trap (quoted w (signed_of (span_of w) a) (signed_of (half_of w) (wrap_of w b)))
+    pick (eqb (wrap_of w b) 0) None (quoted w (signed_of (span_of w) a) (signed_of (half_of w) (wrap_of w b)))
 
 -- AW for bytes, DW and AW for words
 unfoldable pub dividend : Bool → File → ℕ
@@ -106,12 +109,12 @@ abbrev pub all_unknown : Column
 all_unknown = columns unknown unknown unknown unknown unknown unknown
 
 -- hands on whether the trap was taken, which stores PSW before its flags are undefined
-unfoldable pub divided : Bool → Divided → Act Bool
-divided w (Quotient q m) = do
-  set_quotient w q m
+unfoldable pub divided : Bool → Option Quotient → Act Bool
+divided w (Some d) = do
+  set_quotient w d.quotient d.remainder
   affect all_unknown
   pure false
-divided w Trap = do
+divided w None = do
   trap 0
   affect all_unknown
   pure true

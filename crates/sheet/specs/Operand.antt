@@ -1,8 +1,6 @@
 -- Where an operand stands, and how it is read and written.
 -- 01:16, 18
-use Rattle.std.specs.Prelude.{ℕ, ◌+◌, ◌%◌, Bool, true, false, List, [], ◌∷◌, get_or}
-use Rattle.sheet.specs.declared.Index.{Index}
-use Rattle.sheet.specs.declared.Index.TheVariants.{Of, Nothing}
+use Rattle.std.specs.Prelude.{ℕ, ◌+◌, ◌%◌, Bool, true, false, List, [], ◌∷◌, get_or, Option, Some, None}
 use Rattle.sheet.specs.declared.Form.{Form}
 use Rattle.sheet.specs.declared.Address.{Address}
 use Rattle.sheet.specs.declared.Address.TheVariants.{Formed, Direct}
@@ -20,28 +18,28 @@ use Rattle.sheet.specs.Act.{Act, pure, ◌>>=◌, registers, ◌≔◌, peek, po
 
 -- ---- the eight address forms
 
-abbrev pub form : ℕ → Index → ℕ → Form
+abbrev pub form : ℕ → Option ℕ → ℕ → Form
 form b i s = record { base = b; index = i; seg = s }
 
 -- base, index, default segment: forms with BP use SS, others DS0
 abbrev pub forms : List Form
 forms =
-    form BW (Of IX) in_ds0
-    ∷ form BW (Of IY) in_ds0
-    ∷ form BP (Of IX) in_ss
-    ∷ form BP (Of IY) in_ss
-    ∷ form IX Nothing in_ds0
-    ∷ form IY Nothing in_ds0
-    ∷ form BP Nothing in_ss
-    ∷ form BW Nothing in_ds0
+    form BW (Some IX) in_ds0
+    ∷ form BW (Some IY) in_ds0
+    ∷ form BP (Some IX) in_ss
+    ∷ form BP (Some IY) in_ss
+    ∷ form IX None in_ds0
+    ∷ form IY None in_ds0
+    ∷ form BP None in_ss
+    ∷ form BW None in_ds0
     ∷ []
 
 unfoldable pub form_at : ℕ → Form
-form_at n = get_or forms (n % 8) (form BW Nothing in_ds0)
+form_at n = get_or forms (n % 8) (form BW None in_ds0)
 
-unfoldable pub index_of : File → Index → ℕ
-index_of r (Of n) = read_reg true r n
-index_of r Nothing = 0
+unfoldable pub index_of : File → Option ℕ → ℕ
+index_of r (Some n) = read_reg true r n
+index_of r None = 0
 
 unfoldable pub form_offset : File → Form → ℕ → ℕ
 form_offset r f disp = add16 (read_reg true r f.base + index_of r f.index) disp

@@ -3,6 +3,9 @@
 
 pub mod cards;
 
+ghost use Rattle.std.specs.Prelude.{◌≡◌};
+ghost use Rattle.sheet.specs.Refusals.{refusal_number};
+
 use cards::Card;
 
 // ---- the machine
@@ -44,18 +47,11 @@ pub struct Bus {
 
 // ---- operands
 
-// The index register of an address form, where it has one.
-#[derive(Clone, Copy)]
-pub enum Index {
-    Of(u8),
-    Nothing,
-}
-
-// One of the eight address forms: base register, index register, default segment.
+// One of the eight address forms: base register, index register where it has one, default segment.
 #[derive(Clone, Copy)]
 pub struct Form {
     pub base: u8,
-    pub index: Index,
+    pub index: Option<u8>,
     pub seg: u8,
 }
 
@@ -301,17 +297,10 @@ pub enum Repeat {
     WhileNotCy,
 }
 
-// A segment that a prefix puts in place of the usual one.
-#[derive(Clone, Copy)]
-pub enum Override {
-    Usual,
-    Named(u8),
-}
-
-// What the prefixes of an instruction say.
+// What the prefixes of an instruction say: the segment that one puts in place of the usual, and the repeat.
 #[derive(Clone, Copy)]
 pub struct Prefixes {
-    pub seg: Override,
+    pub seg: Option<u8>,
     pub repeat: Repeat,
 }
 
@@ -400,12 +389,12 @@ pub enum GapRule {
 
 // A number at the start of a part of the log, and how many bytes it has.
 #[derive(Clone, Copy)]
-pub enum Number {
-    Got { value: u64, len: usize },
-    Bad,
+pub struct Number {
+    pub value: u64,
+    pub len: usize,
 }
 
-// A record at the start of a part of the log.
+// What stands at the start of a part of the log: three outcomes that one match names; a Result of an Option would nest two.
 #[derive(Clone, Copy)]
 pub enum Found {
     Record {
@@ -418,7 +407,7 @@ pub enum Found {
     Faulty,
 }
 
-// What the log reader answers at a place.
+// What the log reader answers at a place, for the same reason.
 #[derive(Clone, Copy)]
 pub enum Entry {
     Record {
@@ -434,6 +423,52 @@ pub enum Entry {
     Beyond,
 }
 
+// ---- refusals
+
+// Why a call was refused, in the order of the numbers that callers know.
+#[derive(Clone, Copy, PartialEq, Eq)]
+pub enum Refusal {
+    TooMuchMemory,
+    BadState,
+    UnknownInstruction,
+    FourthPrefix,
+    TapeTooShort,
+    NoRoom,
+    Masked,
+    Halted,
+    MalformedRecord,
+    MalformedLine,
+    WrongChecksum,
+    OutsideImage,
+    AfterSegmentLoad,
+    NotAListing,
+    ImageTooLong,
+}
+
+impl Refusal {
+    pub fn number(self) -> u8
+        ensures { result ≡ refusal_number self }
+    {
+        match self {
+            Refusal::TooMuchMemory => 1,
+            Refusal::BadState => 2,
+            Refusal::UnknownInstruction => 3,
+            Refusal::FourthPrefix => 4,
+            Refusal::TapeTooShort => 5,
+            Refusal::NoRoom => 6,
+            Refusal::Masked => 7,
+            Refusal::Halted => 8,
+            Refusal::MalformedRecord => 9,
+            Refusal::MalformedLine => 10,
+            Refusal::WrongChecksum => 11,
+            Refusal::OutsideImage => 12,
+            Refusal::AfterSegmentLoad => 13,
+            Refusal::NotAListing => 16,
+            Refusal::ImageTooLong => 17,
+        }
+    }
+}
+
 // ---- what calculations come to
 
 // A product of 32 bits, of which byte operands use 16, and whether it exceeds its lower half.
@@ -443,10 +478,11 @@ pub struct Product {
     pub exceeds: bool,
 }
 
+// What a division gives where it does not trap.
 #[derive(Clone, Copy)]
-pub enum Divided {
-    Quotient { quotient: u16, remainder: u16 },
-    Trap,
+pub struct Quotient {
+    pub quotient: u16,
+    pub remainder: u16,
 }
 
 // An operand that is shifted, with CY beside it.

@@ -1,10 +1,11 @@
 -- What a step promises.
-use Rattle.std.specs.Prelude.{ℕ, ◌≤◌, Bool, true, false, List, ◌≡◌}
+use Rattle.std.specs.Prelude.{ℕ, ◌≤◌, Bool, true, false, List, ◌≡◌, Result, Ok, Err}
 use Rattle.sheet.specs.declared.Bus.{Bus}
 use Rattle.sheet.specs.declared.State.{State}
 use Rattle.sheet.specs.declared.Marks.{Marks}
 use Rattle.sheet.specs.declared.Progress.{Progress}
-use Rattle.sheet.specs.World.{World, world, state_of}
+use Rattle.sheet.specs.declared.Refusal.{Refusal}
+use Rattle.sheet.specs.World.{World, world}
 use Rattle.sheet.specs.Handler.{kept, nothing}
 use Rattle.sheet.specs.Contract.{Seen, stops, ends, seen, report, report_of}
 use Rattle.sheet.specs.Step.{awake, step_report}
@@ -12,11 +13,15 @@ use Rattle.mach_tally.specs.Bounds.{Within}
 use Rattle.step_answer.specs.declared.Answer.{Answer}
 use Rattle.step_answer.specs.declared.Advanced.{Advanced}
 
-abbrev pub refused_at : Marks → Progress → ℕ → Advanced
-refused_at m q number = record { done = false; number = number; marks = m; progress = q; bus = nothing }
+-- a refusal leaves marks and places as they were, and makes no access
+abbrev pub advanced_in : Marks → Progress → Result Advanced Refusal → Advanced
+advanced_in m q (Ok a) = a
+advanced_in m q (Err e) = record { marks = m; progress = q; bus = nothing }
 
-abbrev pub answer_of : List ℕ → Advanced → Answer
-answer_of f a = record { number = a.number; state = state_of f a.marks a.progress; bus = a.bus }
+-- a refusal hands back the state that was given
+abbrev pub answer_in : State → Result Answer Refusal → Answer
+answer_in s (Ok a) = a
+answer_in s (Err e) = record { state = s; bus = nothing }
 
 -- what is seen of a step that is done, or that is refused by a number
 abbrev pub seen_by : (done : Bool) (number : ℕ) → World → Bus → Seen Unit

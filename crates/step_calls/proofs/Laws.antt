@@ -20,7 +20,6 @@ use Rattle.sheet.specs.Traps.{trap}
 use Rattle.sheet.specs.Step.{psw_good, places_good, marks_good, fits, sound, refusal, interrupting, interrupt_by, interrupt, interrupt_report}
 use Rattle.sheet.specs.Contract.{seen, exec, OnMemory, report, report_of}
 use Rattle.sheet.proofs.Rules.{seq_last, ends_halted}
-use Rattle.mach_tally.specs.Sums.{Free}
 use Rattle.step_answer.specs.Calls.{check_number, held_number, Accepts, Interrupts}
 use Rattle.step_answer.proofs.CheckLaws.{passed, checked_passed, checked_refused}
 
@@ -73,9 +72,9 @@ module _ (v : ℕ) (m : Bool) (s : State) (ram rom tape log : List ℕ) (number 
   w : World
   w = world s ram rom tape log
 
-  pub refused_first : (n : Bus) → (number ≡ 0 → ⊥) → Free n → Interrupts v m s ram rom tape log number s ram n
+  pub refused_first : (number ≡ 0 → ⊥) → Interrupts v m s ram rom tape log number s ram nothing
   unfolding w interrupt_report interrupt interrupt_by
-  refused_first n z k = rw k.is (record { most = zero-le; is = ap (λ (o : Outcome Unit). report_of w (seen o)) (checked_refused w refusal _ number e z) })
+  refused_first z = record { most = zero-le; is = ap (λ (o : Outcome Unit). report_of w (seen o)) (checked_refused w refusal _ number e z) }
 
   -- what is reported past them
   past : (l i : Bool) → number ≡ 0 → s.marks.loaded ≡ l → (m && not (flag_of (psw_of s) IE)) ≡ i
@@ -110,9 +109,9 @@ module _ (v : ℕ) (m : Bool) (s : State) (ram rom tape log : List ℕ) (number 
       go false true a b q = absurd (let y : ◌≡◌ {A = ℕ} 7 0 = q in omega arith)
       go false false a b q = past false false z a b
 
-  pub refused_held : (k : ℕ) (n : Bus) → number ≡ 0 → k ≡ held_number m s → (k ≡ 0 → ⊥) → Free n → Interrupts v m s ram rom tape log k s ram n
+  pub refused_held : (k : ℕ) → number ≡ 0 → k ≡ held_number m s → (k ≡ 0 → ⊥) → Interrupts v m s ram rom tape log k s ram nothing
   unfolding w
-  refused_held k n z h d f = rw f.is (record { most = zero-le; is = held k z h d })
+  refused_held k z h d = record { most = zero-le; is = held k z h d }
 
   pub taken : (k r : ℕ) (s' : State) (ram' : List ℕ) (n : Bus) → number ≡ 0 → k ≡ held_number m s → k ≡ 0 → Accepts v s ram rom r s' ram' n → Interrupts v m s ram rom tape log r s' ram' n
   unfolding w

@@ -3,12 +3,15 @@
 
 ghost use Rattle.std.specs.Prelude.{◌≡◌};
 ghost use Rattle.sheet.specs.World.{world};
+ghost use Rattle.sheet.specs.Refusals.{number_in};
 ghost use Rattle.sheet.specs.Step as definition;
 ghost use Rattle.step_answer.specs.Calls.{check_number, held_number};
+ghost use Rattle.step_answer.specs.Steps.{answer_in};
 ghost use Rattle.step_answer.specs.Lent.{AcceptsOn, InterruptsOn};
 
+use calc_flags::{IE, MD, flag};
 use mach_registers::PSW;
-use sheet::{Progress, State};
+use sheet::{Progress, Refusal, State};
 use step_answer::Answer;
 
 // The machine as it is when power comes on.
@@ -39,64 +42,56 @@ fn psw_good(s: State) -> bool
 {
     let psw = s.file[PSW];
     let fixed = calc_flags::fixed(psw);
-    let native = calc_flags::native(psw);
+    let native = flag::<MD>(psw);
     fixed & (native | s.marks.writable)
 }
 
-// 1, 2, or 0 where neither is due.
-pub fn check(s: State, ram: &[u8], rom: &[u8], tape: &[u8], log: &[u8]) -> u8
-    ensures { result ≡ check_number (world s ram.now rom.now tape.now log.now) }
+// What every call checks first: 1, then 2.
+pub fn check(s: State, ram: &[u8], rom: &[u8], tape: &[u8], log: &[u8]) -> Result<(), Refusal>
+    ensures { number_in result ≡ check_number (world s ram.now rom.now tape.now log.now) }
 {
     let long = ram.len();
     let n = rom.len();
     if 1048576 < long {
-        return 1;
+        return Err(Refusal::TooMuchMemory);
     }
     if 1048576 - long < n {
-        return 1;
+        return Err(Refusal::TooMuchMemory);
     }
     let fixed = psw_good(s);
     let placed = places_good(s, tape, log);
-    let m = s.marks;
-    let marked = mach_marks::good(m);
+    let marked = mach_marks::good(s.marks);
     if fixed & (placed & marked) {
-        return 0;
+        return Ok(());
     }
-    2
+    Err(Refusal::BadState)
 }
 
 // The interrupt itself, once it is accepted.
 fn accept(s: State, ram: &mut [u8], rom: &[u8], vector: u8) -> Answer
-    ensures { AcceptsOn vector s ram rom result.number result.state result.bus }
+    ensures { AcceptsOn vector s ram rom 0 result.state result.bus }
 {
     let mut file = s.file;
-    let m = s.marks;
-    let marks = mach_marks::woken(m);
-    let progress = s.progress;
-    let b = mach_stack::trap(&mut file, ram, rom, vector);
+    let marks = mach_marks::woken(s.marks);
+    let bus = mach_stack::trap(&mut file, ram, rom, vector);
     Answer {
-        number: 0,
-        state: State {
-            file,
-            marks,
-            progress,
-        },
-        bus: b,
+        state: State { file, marks, ..s },
+        bus,
     }
 }
 
-// 13 after a segment load, 7 where it is masked, or 0 where neither holds an interrupt off.
-fn held_off(s: State, maskable: bool) -> u8
-    ensures { result ≡ held_number maskable s }
+// What holds an interrupt off: a segment load, 13, or the mask, 7.
+fn held_off(s: State, maskable: bool) -> Result<(), Refusal>
+    ensures { number_in result ≡ held_number maskable s }
 {
     if s.marks.loaded {
-        return 13;
+        return Err(Refusal::AfterSegmentLoad);
     }
-    let ie = calc_flags::ie(s.file[PSW]);
+    let ie = flag::<IE>(s.file[PSW]);
     if maskable & !ie {
-        return 7;
+        return Err(Refusal::Masked);
     }
-    0
+    Ok(())
 }
 
 // An interrupt call: checks 1, 2, 13, 7.
@@ -108,24 +103,10 @@ pub fn interrupt(
     log: &[u8],
     vector: u8,
     maskable: bool,
-) -> Answer
-    ensures { InterruptsOn vector maskable s ram rom tape log result.number result.state result.bus }
+) -> Result<Answer, Refusal>
+    ensures { InterruptsOn vector maskable s ram rom tape log (number_in result) (answer_in s result).state (answer_in s result).bus }
 {
-    let number = check(s, ram, rom, tape, log);
-    if number != 0 {
-        return Answer {
-            number,
-            state: s,
-            bus: mach_tally::none(),
-        };
-    }
-    let held = held_off(s, maskable);
-    if held != 0 {
-        return Answer {
-            number: held,
-            state: s,
-            bus: mach_tally::none(),
-        };
-    }
-    accept(s, ram, rom, vector)
+    check(s, ram, rom, tape, log)?;
+    held_off(s, maskable)?;
+    Ok(accept(s, ram, rom, vector))
 }

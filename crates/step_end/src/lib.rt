@@ -3,21 +3,19 @@
 
 ghost use Rattle.std.specs.Prelude.{◌≡◌, not, ◌&&◌};
 ghost use Rattle.sheet.specs.Log.{rule, risen};
-ghost use Rattle.sheet.specs.Psw.{BRK, flag_of};
+ghost use Rattle.sheet.specs.Psw as sheet;
+ghost use Rattle.sheet.specs.Psw.{flag_of};
 ghost use Rattle.step_end.specs.Finishes.{begun_at};
 ghost use Rattle.step_end.specs.Lent.{FinishesOn};
 
+use calc_flags::{BRK, flag};
 use sheet::{Bus, Marks, Progress};
 
 // The count once one more step is done.
 pub fn count_on(count: u32) -> u32
     ensures { result ≡ risen rule count }
 {
-    if count < u32::MAX {
-        count + 1
-    } else {
-        u32::MAX
-    }
+    count.saturating_add(1)
 }
 
 #[derive(Clone, Copy)]
@@ -27,27 +25,33 @@ pub struct Finished {
 }
 
 // The trap to vector 1, which ends a halt.
-pub fn finish(file: &mut [u16; 14], ram: &mut [u8], rom: &[u8], traced: bool, m: Marks) -> Finished
-    ensures { FinishesOn traced file ram rom m result }
+pub fn finish(
+    file: &mut [u16; 14],
+    ram: &mut [u8],
+    rom: &[u8],
+    traced: bool,
+    marks: Marks,
+) -> Finished
+    ensures { FinishesOn traced file ram rom marks result }
 {
     if traced {
-        let b = mach_stack::trap(file, ram, rom, 1);
-        return Finished {
-            marks: mach_marks::woken(m),
-            bus: b,
-        };
-    }
-    Finished {
-        marks: m,
-        bus: mach_tally::none(),
+        Finished {
+            marks: mach_marks::woken(marks),
+            bus: mach_stack::trap(file, ram, rom, 1),
+        }
+    } else {
+        Finished {
+            marks,
+            bus: mach_tally::none(),
+        }
     }
 }
 
 // Whether the single-step trap follows a step that takes no trap itself: not after a segment load.
 pub fn is_traced(psw: u16, marked: Marks) -> bool
-    ensures { result ≡ (flag_of psw BRK && not marked.loaded) }
+    ensures { result ≡ (flag_of psw sheet.BRK && not marked.loaded) }
 {
-    calc_flags::brk(psw) & !marked.loaded
+    flag::<BRK>(psw) & !marked.loaded
 }
 
 // Where tape, log and count stand once the instruction has begun.
@@ -55,8 +59,7 @@ pub fn begin(q: Progress) -> Progress
     ensures { result ≡ begun_at q }
 {
     Progress {
-        tape: q.tape,
-        log: q.log,
         count: count_on(q.count),
+        ..q
     }
 }

@@ -3,7 +3,7 @@ use Prim.Native.Nat.{ℕ, zero, suc, ◌+◌, ◌-◌, ◌/◌, ◌%◌, ◌≤�
 use mathlib.Core.Path.{◌≡◌, refl, sym, ap, subst, ◌∙◌}
 use mathlib.Core.Bool.{Bool, true, false, not, ◌&&◌}
 use mathlib.Core.List.{List, [], ◌∷◌}
-use mathlib.Core.Option.{none}
+use Rattle.std.specs.Prelude.{None}
 use mathlib.Core.Logic.{◌≢◌}
 use native.Mathlib.Nat.{add-zero}
 use native.Mathlib.Omega.{arith}
@@ -78,7 +78,7 @@ second_read : (src : ℕ → ℕ) → src 1 ≡ 0x22 → scan (look_up (first_by
 unfolding look_up scan reading.◌>>=◌ subtraction
 second_read src e = subst (λ (b : ℕ). scan (look_up (second_bytes unprefixed) b) src 2 ≡ known (Computes (Decimals (Sub4s in_ds0))) 2) (sym e) refl
 
-no_prefix_byte : prefix_of 0x0f ≡ none
+no_prefix_byte : prefix_of 0x0f ≡ None
 unfolding prefix_of
 no_prefix_byte = refl
 

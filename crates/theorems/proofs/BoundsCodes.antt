@@ -1,7 +1,7 @@
 -- Every code of the tables, and an instruction with its prefixes, by the rules of BoundsReading.
 use Prim.Native.Nat.{ℕ, zero, suc}
 use mathlib.Core.List.{List, ◌++◌}
-use mathlib.Core.Option.{Option, none, some}
+use Rattle.std.specs.Prelude.{Option, None, Some}
 use lib.Dec.{eqb, lit≤}
 use Rattle.sheet.specs.declared.Place.{Place}
 use Rattle.sheet.specs.declared.Length.{Length}
@@ -79,8 +79,8 @@ of_with_immediate p b = of_with_place p _ λ reg a. into _ (of_small_immediate b
 
 of_with_shift : (o : Option Shift) (k : Shift → Reading Instr) → ((s : Shift) → Leaf Fine (k s)) → Leaf Fine (with_shift o k)
 unfolding with_shift
-of_with_shift none k h = unknown_code
-of_with_shift (some s) k h = h s
+of_with_shift None k h = unknown_code
+of_with_shift (Some s) k h = h s
 
 of_shift_group : (p : Prefixes) (count : Reading Places) → Leaf Any count → (n : ℕ) → Leaf Fine (shift_group p count n)
 unfolding shift_group
@@ -252,8 +252,8 @@ of_first_bytes p = both (of_bytes00 p) (both (of_bytes40 p) (both (of_bytes80 p)
 
 of_after_prefix : (o : Option Prefix) (k : Prefix → Reading Instr) (other : Reading Instr) → ((q : Prefix) → LeafTo 4 Fine (k q)) → LeafTo 4 Fine other → LeafTo 4 Fine (after_prefix o k other)
 unfolding after_prefix
-of_after_prefix none k other h g = g
-of_after_prefix (some q) k other h g = h q
+of_after_prefix None k other h g = g
+of_after_prefix (Some q) k other h g = h q
 
 -- the bytes behind the prefixes
 pub of_code : (p : Prefixes) (b : ℕ) → Leaf Fine (look_up (first_bytes p) b)

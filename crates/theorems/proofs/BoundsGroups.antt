@@ -7,8 +7,8 @@ use lib.Dec.{lit≤, ltb}
 use Rattle.sheet.specs.declared.Place.{Place}
 use Rattle.sheet.specs.declared.Spot.{Spot}
 use Rattle.sheet.specs.declared.Product.{Product}
-use Rattle.sheet.specs.declared.Divided.{Divided}
-use Rattle.sheet.specs.declared.Divided.TheVariants.{Quotient, Trap}
+use Rattle.std.specs.Prelude.{Option, Some, None}
+use Rattle.sheet.specs.declared.Quotient.{Quotient}
 use Rattle.sheet.specs.declared.Chain.{Chain}
 use Rattle.sheet.specs.declared.Transfer.{Transfer}
 use Rattle.sheet.specs.declared.Transfer.TheVariants.{Mov, LoadAcc, StoreAcc, ToSegment, FromSegment, LoadPointer, AhFromPsw, PswFromAh, Ldea, Trans, Xch}
@@ -128,10 +128,10 @@ unfolding set_quotient
 of_set_quotient false q m = of_set
 of_set_quotient true q m = seq of_set λ _. of_set
 
-of_divided : (w : Bool) (d : Divided) → Most Bool (divided w d) 8
+of_divided : (w : Bool) (d : Option Quotient) → Most Bool (divided w d) 8
 unfolding divided
-of_divided w (Quotient q m) = up (lit≤ tt) (seq (of_set_quotient w q m) λ _. seq of_flags λ _. of_pure)
-of_divided w Trap = seq (of_trap 0) λ _. seq of_flags λ _. of_pure
+of_divided w (Some d) = up (lit≤ tt) (seq (of_set_quotient w d.quotient d.remainder) λ _. seq of_flags λ _. of_pure)
+of_divided w None = seq (of_trap 0) λ _. seq of_flags λ _. of_pure
 
 pub of_multiply : (i : Multiply) → Most Bool (multiply i) 10
 unfolding multiply mulu mul divu div

@@ -3,7 +3,7 @@ use Prim.Native.Nat.{ℕ, zero, suc, ◌+◌, ◌≤◌, ◌<◌}
 use mathlib.Core.Path.{◌≡◌, refl, sym, ap, subst, ◌∙◌}
 use mathlib.Core.Bool.{Bool, true, false, not, ◌&&◌, ◌||◌, and-eq-true_iff, true≢false}
 use mathlib.Core.List.{List}
-use mathlib.Core.Option.{Option, none, some}
+use Rattle.std.specs.Prelude.{Option, None, Some}
 use native.Mathlib.Nat.{add-zero}
 use native.Mathlib.Omega.{arith}
 use lib.ListN.{length, drop, length-drop}
@@ -108,7 +108,7 @@ sound_so w p = rw (p.fixed, p.mode_in, le-leb _ _ p.tape_in, le-leb _ _ p.log_in
 
 -- ---- prefixes
 
-first_byte : (src : ℕ → ℕ) (i : ℕ) (x : Prefix) → prefix_of (src i) ≡ some x → IsPrefix (src (i + 0))
+first_byte : (src : ℕ → ℕ) (i : ℕ) (x : Prefix) → prefix_of (src i) ≡ Some x → IsPrefix (src (i + 0))
 first_byte src i x e = rw (add-zero i) (x, e)
 
 -- the table refuses by 3 alone; a 4 is given for as many prefixes as there is room for, and one more
@@ -133,14 +133,14 @@ unfolding scan prefixed after_prefix reading.◌>>=◌
 opened zero p src h i = go (prefix_of (src i)) refl
   where
     go : (o : Option Prefix) → prefix_of (src i) ≡ o → Opened zero src i (scan (after_prefix o (λ q. reading.no 4) (look_up (first_bytes p) (src i))) src (i + 1))
-    go none e = by_table (scanned (look_up (first_bytes p) (src i)) (of_code p (src i)) src h (i + 1))
-    go (some x) e = by_prefix refl (only_one src i (first_byte src i x e))
+    go None e = by_table (scanned (look_up (first_bytes p) (src i)) (of_code p (src i)) src h (i + 1))
+    go (Some x) e = by_prefix refl (only_one src i (first_byte src i x e))
 opened (suc room) p src h i = go (prefix_of (src i)) refl (λ q. opened room (with_prefix p q) src h (i + 1))
   where
     go : (o : Option Prefix) → prefix_of (src i) ≡ o → ((q : Prefix) → Opened room src (i + 1) (scan (prefixed room (with_prefix p q)) src (i + 1)))
         → Opened (suc room) src i (scan (after_prefix o (λ q. prefixed room (with_prefix p q)) (look_up (first_bytes p) (src i))) src (i + 1))
-    go none e g = by_table (scanned (look_up (first_bytes p) (src i)) (of_code p (src i)) src h (i + 1))
-    go (some x) e g = one_more (first_byte src i x e) (g x)
+    go None e g = by_table (scanned (look_up (first_bytes p) (src i)) (of_code p (src i)) src h (i + 1))
+    go (Some x) e g = one_more (first_byte src i x e) (g x)
 
 fourth_met : (room : ℕ) (p : Prefixes) (src : ℕ → ℕ) (i : ℕ) → ((j : ℕ) → j < suc room → IsPrefix (src (i + j))) → (n : ℕ) × (scan (prefixed room p) src i ≡ unknown 4 n)
 unfolding scan prefixed after_prefix reading.◌>>=◌

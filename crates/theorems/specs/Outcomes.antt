@@ -1,6 +1,5 @@
 -- Document 01's table of refusals, with 02 f's 13 and its case of 2, 02 m's case of 2, and 02 c's ceiling and rule, row by row: what a step, an interrupt call and a reading of a log come to, each with its condition.
-use Rattle.std.specs.Prelude.{ℕ, ◌+◌, ◌≤◌, ◌<◌, ◌≡◌, Bool, true, false, not, ◌&&◌, ◌||◌, List, length, drop}
-use Rattle.std.proofs.Math.Option.{some}
+use Rattle.std.specs.Prelude.{ℕ, ◌+◌, ◌≤◌, ◌<◌, ◌≡◌, Bool, true, false, not, ◌&&◌, ◌||◌, List, length, drop, Some}
 use Rattle.sheet.specs.declared.Instr.{Instr}
 use Rattle.sheet.specs.declared.GapRule.{GapRule}
 use Rattle.sheet.specs.declared.Found.TheVariants as found
@@ -44,7 +43,7 @@ pub record Passes (w : World) : Type 0 where
 -- ---- a step
 
 abbrev pub IsPrefix : ℕ → Type 0
-IsPrefix b = (x : Prefix) × (prefix_of b ≡ some x)
+IsPrefix b = (x : Prefix) × (prefix_of b ≡ Some x)
 
 pub data StepOf (w : World) : Seen Unit → Type 0 where
   -- 1: RAM and ROM together exceed 1,048,576 bytes

@@ -1,4 +1,4 @@
 use Rattle.calc_flags.proofs.fixed.Goals as goal
 
 pub returns : goal.returns
-returns c = rw (c.pack.ensures, c.unpack.ensures, c.native.ensures)
+returns c = rw (c.pack.ensures, c.from.ensures, c.flag.ensures)

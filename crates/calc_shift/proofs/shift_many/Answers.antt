@@ -6,4 +6,4 @@ use Rattle.calc_shift.proofs.shift_many.Goals as goal
 pub returns : goal.returns
 unfolding shift_many
 returns c =
-    c.after.ensures ∙ rw (c.v.ensures, c.many_places-t.ensures) (kept_v _ _ _ _)
+    c.after.ensures ∙ rw (c.flag.ensures, c.many_places-t.ensures) (kept_v _ _ _ _)

@@ -1,3 +1,4 @@
+use native.Mathlib.Omega.{arith}
 use Rattle.code_8080_00.proofs.Laws.{at00}
 use borrow.Author.Rules.{rules}
 use Rattle.code_8080_00.proofs.cards00.Goals as goal
@@ -19,3 +20,9 @@ returns-in-4 c = search (at00, rules)
 
 pub returns-in-5 : goal.returns-in-5
 returns-in-5 c = search (at00, rules)
+
+pub returns-in-6 : goal.returns-in-6
+returns-in-6 c = search (at00, rules)
+
+pub returns-in_default : goal.returns-in_default
+returns-in_default c = at00 _ _ 7 (omega arith) (search rules)

@@ -1,16 +1,7 @@
 use native.Mathlib.Omega.{arith}
 use Rattle.code_8080_00.proofs.Laws.{lda, lhld, shld, sta}
-use borrow.Author.Rules.{rules}
+use Rattle.code_8080_00.proofs.load_or_store.Goals.{in-4, in-5, in-6, in_default}
 use Rattle.code_8080_00.proofs.load_or_store.Goals as goal
 
-pub returns-in-4 : goal.returns-in-4
-returns-in-4 c = search (shld, rules)
-
-pub returns-in-5 : goal.returns-in-5
-returns-in-5 c = search (lhld, rules)
-
-pub returns-in-6 : goal.returns-in-6
-returns-in-6 c = search (sta, rules)
-
-pub returns-in_default : goal.returns-in_default
-returns-in_default c = lda _ (omega arith) c.code_word.ensures (search rules)
+pub returns : goal.returns
+returns c = elim c.match-d.branch [ in-4 w ↦ shld _ w.in-4.is c.word.ensures (rw w.group-is at c.known.ensures) | in-5 w ↦ lhld _ w.in-5.is c.word.ensures (rw w.group-is at c.known.ensures) | in-6 w ↦ sta _ w.in-6.is c.word.ensures (rw w.group-is at c.known.ensures) | in_default w ↦ lda _ (omega arith) c.word.ensures (rw w.group-is at c.known.ensures) ]

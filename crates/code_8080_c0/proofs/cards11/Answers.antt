@@ -1,4 +1,5 @@
-use Rattle.code_8080_c0.proofs.Laws.{at11}
+use native.Mathlib.Omega.{arith}
+use Rattle.code_8080_c0.proofs.Laws.{at11, rst}
 use borrow.Author.Rules.{rules}
 use Rattle.code_8080_c0.proofs.cards11.Goals as goal
 
@@ -19,3 +20,9 @@ returns-in-4 c = search (at11, rules)
 
 pub returns-in-5 : goal.returns-in-5
 returns-in-5 c = search (at11, rules)
+
+pub returns-in-6 : goal.returns-in-6
+returns-in-6 c = search (at11, rules)
+
+pub returns-in_default : goal.returns-in_default
+returns-in_default c = rst _ _ (omega arith) (search rules)

@@ -1,16 +1,28 @@
 use native.Mathlib.Omega.{arith}
-use Rattle.code_8080_c0.proofs.Laws.{no_d9, pchl, ret, sphl}
+use Rattle.code_8080_c0.proofs.Laws.{no_d9, pchl, pop_b, pop_d, pop_h, pop_psw, ret, sphl}
 use borrow.Author.Rules.{rules}
 use Rattle.code_8080_c0.proofs.pop_or_return.Goals as goal
+
+pub returns-in-0 : goal.returns-in-0
+returns-in-0 c = search (pop_b, rules)
 
 pub returns-in-1 : goal.returns-in-1
 returns-in-1 c = search (ret, rules)
 
+pub returns-in-2 : goal.returns-in-2
+returns-in-2 c = search (pop_d, rules)
+
 pub returns-in-3 : goal.returns-in-3
 returns-in-3 c = search (no_d9, rules)
 
+pub returns-in-4 : goal.returns-in-4
+returns-in-4 c = search (pop_h, rules)
+
 pub returns-in-5 : goal.returns-in-5
 returns-in-5 c = search (pchl, rules)
+
+pub returns-in-6 : goal.returns-in-6
+returns-in-6 c = search (pop_psw, rules)
 
 pub returns-in_default : goal.returns-in_default
 returns-in_default c = sphl _ (omega arith) (search rules)

@@ -3,4 +3,4 @@ use borrow.Author.Rules.{rules}
 use Rattle.code_90.proofs.load_register.Goals as goal
 
 pub returns : goal.returns
-returns c = load_register_lem _ (search rules) (search rules) c.code_immediate-v.ensures c.transfers.ensures
+returns c = load_register_lem _ (search rules) (search rules) c.immediate-v.ensures c.known.ensures

@@ -1,9 +1,8 @@
 use Rattle.code_operand.proofs.OperandsLaws.{not_memory, with_memory_lem}
-use borrow.Author.Rules.{rules}
 use Rattle.code_c0.proofs.load_pointer.Goals as goal
 
-pub returns-in-Register : goal.returns-in-Register
-returns-in-Register c = search (not_memory, rules)
+pub returns-in_err-from : goal.returns-in_err-from
+returns-in_err-from c = not_memory c.operands-o.ensures _ _ c.in_err-from.ensures c.from_residual.ensures.1
 
 pub returns : goal.returns
-returns c = with_memory_lem c.operands-o.ensures _ _ (search rules) c.transfers.ensures
+returns c = with_memory_lem c.operands-o.ensures _ _ c.in_ok-from.ensures c.known.ensures

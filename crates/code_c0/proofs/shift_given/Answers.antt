@@ -1,9 +1,8 @@
 use Rattle.code_operand.proofs.ShiftLaws.{counted_reads, no_shift, shift_group_lem}
-use borrow.Author.Rules.{rules}
 use Rattle.code_c0.proofs.shift_given.Goals as goal
 
-pub returns-then-o-eq6 : goal.returns-then-o-eq6
-returns-then-o-eq6 c = no_shift c.operands-o.ensures _ _ (search rules)
+pub returns-in_err-kind : goal.returns-in_err-kind
+returns-in_err-kind c = no_shift c.operands-o.ensures _ _ _ c.in_err-kind.ensures c.from_residual.ensures.1
 
 pub returns : goal.returns
-returns c = shift_group_lem c.operands-o.ensures _ _ c.shift_at-kind.ensures (counted_reads c.code_byte-count.ensures) c.shifts.ensures
+returns c = shift_group_lem c.operands-o.ensures _ _ c.in_ok-kind.ensures (counted_reads c.byte-count.ensures) c.known.ensures

@@ -1,10 +1,12 @@
 use Rattle.sheet.specs.FirstByte.{instruction}
+use Rattle.code_answer.proofs.DecodesLaws.{left_by}
+use mathlib.Core.Path.{refl}
 use Rattle.code_decode.proofs.decode.Goals as goal
 
-pub returns-then-s : goal.returns-then-s
+pub returns-in_err-o : goal.returns-in_err-o
 unfolding instruction
-returns-then-s c = c.start-s.ensures.refused c.if-s.true
+returns-in_err-o c = left_by c.from_residual.ensures.1 refl c.in_err-o.ensures.is.1
 
 pub returns : goal.returns
 unfolding instruction
-returns c = c.start-s.ensures.decided c.if-s.false _ c.first.ensures
+returns c = c.in_ok-o.ensures.is.decided _ c.first.ensures

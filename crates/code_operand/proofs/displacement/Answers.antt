@@ -2,11 +2,11 @@ use Rattle.code_operand.proofs.Laws.{displacement_byte, displacement_none, displ
 use borrow.Author.Rules.{rules}
 use Rattle.code_operand.proofs.displacement.Goals as goal
 
-pub returns-then-mode-eq0 : goal.returns-then-mode-eq0
-returns-then-mode-eq0 c = search (displacement_none, rules)
+pub returns-in-0 : goal.returns-in-0
+returns-in-0 c = search (displacement_none, rules)
 
-pub returns-then-mode-eq1 : goal.returns-then-mode-eq1
-returns-then-mode-eq1 c = search (displacement_byte, rules)
+pub returns-in-1 : goal.returns-in-1
+returns-in-1 c = search (displacement_byte, rules)
 
-pub returns : goal.returns
-returns c = search (displacement_word, rules)
+pub returns-in_default : goal.returns-in_default
+returns-in_default c = search (displacement_word, rules)

@@ -1,3 +1,4 @@
+use borrow.Author.Rules.{rules}
 use Rattle.code_prefix.specs.Found.{found}
 use Rattle.code_prefix.proofs.Laws.{no_prefix}
 use Rattle.sheet.specs.Encoding.{prefix_of}
@@ -41,4 +42,4 @@ returns-in-243 c = rw c.in-243.is c.repeating-in-243.ensures
 
 pub returns-in_default : goal.returns-in_default
 unfolding prefix_of found
-returns-in_default c = no_prefix _ _ c.in_default.in_default-own.rest
+returns-in_default c = no_prefix c.args.p c.args.b (search rules)

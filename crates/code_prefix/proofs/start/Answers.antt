@@ -2,8 +2,8 @@ use Rattle.code_prefix.proofs.Laws.{no_more, more}
 use borrow.Author.Rules.{rules}
 use Rattle.code_prefix.proofs.start.Goals as goal
 
-pub returns-then-f : goal.returns-then-f
-returns-then-f c = more _ _ _ c.prefix-f.ensures c.code_byte-b.ensures (search rules) (search rules) (search rules) c.later.ensures
+pub returns-in-Some : goal.returns-in-Some
+returns-in-Some c = more _ _ c.byte-byte.ensures (search rules) c.in-Some.ensures (search rules) c.later.ensures
 
-pub returns : goal.returns
-returns c = no_more _ _ _ c.prefix-f.ensures c.code_byte-b.ensures (search rules) (search rules)
+pub returns-in-None : goal.returns-in-None
+returns-in-None c = no_more _ _ c.byte-byte.ensures (search rules) c.in-None.ensures

@@ -1,9 +1,9 @@
--- Each line takes at least one byte, so that there are no more lines than bytes.
-use Rattle.std.proofs.Common.{length, ◌-◌, ◌≤◌}
+-- There are no more calls than there is room for.
+use Rattle.std.proofs.Common.{◌≤◌, length}
 use Rattle.console_schedule.proofs.read.Given as goal
 
-abbrev pub invariant-loop-at : goal.invariant-loop-at
-invariant-loop-at l = (l.at ≤ length l.text) × (l.s.lines ≤ l.at) × (l.s.calls ≤ l.s.lines)
-
-abbrev pub decreases-loop-at : goal.decreases-loop-at
-decreases-loop-at l = length l.text - l.at
+abbrev pub invariant-loop-number : goal.invariant-loop-number
+invariant-loop-number l =
+    (goal.iterator-loop-number).can_next l.number-iterator
+    × (goal.iterator-loop-number).is_finite l.number-iterator
+    × (l.n ≤ length l.calls)

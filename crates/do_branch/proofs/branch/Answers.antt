@@ -41,10 +41,6 @@ pub returns-in-BrNear : goal.returns-in-BrNear
 unfolding branch
 returns-in-BrNear c = search (jump_known, sums, rules)
 
-pub returns-in-BrShort : goal.returns-in-BrShort
-unfolding branch
-returns-in-BrShort c = search (jump_known, sums, rules)
-
 pub returns-in-BrTo : goal.returns-in-BrTo
 unfolding branch
 returns-in-BrTo c = search (memory_known branch, rules)

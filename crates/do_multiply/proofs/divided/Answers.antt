@@ -6,8 +6,8 @@ use Rattle.do_multiply.proofs.divided.Goals as goal
 pub set_quotient-requires : goal.set_quotient-requires
 set_quotient-requires c = search (both_held, rules)
 
-pub returns-in-Quotient : goal.returns-in-Quotient
-returns-in-Quotient c = search (quotient_is, sums, rules)
+pub returns-in-Some : goal.returns-in-Some
+returns-in-Some c = search (quotient_is, sums, rules)
 
-pub returns-in-Trap : goal.returns-in-Trap
-returns-in-Trap c = search (trap_is, rules)
+pub returns-in-None : goal.returns-in-None
+returns-in-None c = search (trap_is, rules)

@@ -1,3 +1,4 @@
+use mathlib.Core.Logic.{inl, inr}
 use Rattle.sheet.proofs.Lifted.{memory_known}
 use Rattle.sheet.specs.Multiply.{multiply}
 use Rattle.do_multiply.proofs.Laws.{product_known}
@@ -14,11 +15,7 @@ returns-in-Mul c = search (product_known, rules)
 
 pub returns-in-MulByte : goal.returns-in-MulByte
 unfolding multiply
-returns-in-MulByte c = search (product_known, rules)
-
-pub returns-in-MulWord : goal.returns-in-MulWord
-unfolding multiply
-returns-in-MulWord c = search (product_known, rules)
+returns-in-MulByte c = elim c.in-MulByte.is [ inl e ↦ search (product_known, rules) | inr e ↦ search (product_known, rules) ]
 
 pub returns-in-Divu : goal.returns-in-Divu
 unfolding multiply

@@ -1,9 +1,13 @@
+use Rattle.std.proofs.lemmas.Result.{err_from_is_err_and}
+use Rattle.sheet.proofs.RefusalLaws.{refusal_some}
 use Rattle.do_port.proofs.Laws.{input_done, input_stop}
 use borrow.Author.Rules.{rules}
 use Rattle.do_port.proofs.input.Goals as goal
 
-pub returns-then-t-eq0 : goal.returns-then-t-eq0
-returns-then-t-eq0 c = search (input_done, rules)
+pub returns : goal.returns
+returns c = search (input_done, c.in_ok-t.ensures, rules)
 
-pub returns-else-t-eq0 : goal.returns-else-t-eq0
-returns-else-t-eq0 c = search (input_stop, rules)
+pub returns-in_err-t : goal.returns-in_err-t
+returns-in_err-t c =
+    let p = err_from_is_err_and c.from_residual.result c.from_residual.ensures.1 in
+    rw (p.1, p.2) (search (input_stop, refusal_some c.in_err-t.field-0.0, c.in_err-t.ensures, rules))

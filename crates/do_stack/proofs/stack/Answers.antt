@@ -11,10 +11,6 @@ pub returns-in-PushByte : goal.returns-in-PushByte
 unfolding stack
 returns-in-PushByte c = search (memory_known stack, rules)
 
-pub returns-in-PushWord : goal.returns-in-PushWord
-unfolding stack
-returns-in-PushWord c = search (memory_known stack, rules)
-
 pub returns-in-PushSegment : goal.returns-in-PushSegment
 unfolding stack
 returns-in-PushSegment c = search (memory_known stack, rules)

@@ -1,6 +1,7 @@
-use borrow.Author.Rules.{rules}
+use Rattle.sheet.proofs.RefusalLaws.{refusal_some}
 use Rattle.step_answer.proofs.RunLaws.{runs_refused}
+use borrow.Author.Rules.{rules}
 use Rattle.engine.proofs.run.Goals as goal
 
-pub returns-then-number-ne0 : goal.returns-then-number-ne0
-returns-then-number-ne0 c = search (runs_refused, rules)
+pub returns-in-Err : goal.returns-in-Err
+returns-in-Err c = search (runs_refused, refusal_some c.in-Err.refusal, rules)

@@ -1,10 +1,6 @@
-use Rattle.hex_line.proofs.Bounds.{size_bound}
 use Rattle.hex_fault.proofs.Laws.{data_lands, others_land}
 use borrow.Author.Rules.{rules}
 use Rattle.hex_fault.proofs.does_land.Goals as goal
-
-pub lands_to-requires : goal.lands_to-requires
-lands_to-requires c = (search rules, size_bound _ c.size_of-k.ensures)
 
 pub returns-then-kind_of-eq0 : goal.returns-then-kind_of-eq0
 returns-then-kind_of-eq0 c = search (data_lands, rules)

@@ -1,24 +1,24 @@
-use Rattle.hex_line.proofs.Laws.{below_digits, decimal, below_upper, upper, below_lower, lower, beyond_digits}
-use borrow.Author.Rules.{rules}
+use native.Mathlib.Omega.{arith}
+use Rattle.hex_line.proofs.Laws.{decimal, upper, lower, below_digits, below_upper, below_lower, beyond_digits}
 use Rattle.hex_line.proofs.value_of.Goals as goal
 
-pub returns-then-c-lt48 : goal.returns-then-c-lt48
-returns-then-c-lt48 c = search (below_digits, rules)
+pub returns-in-48-to-57 : goal.returns-in-48-to-57
+returns-in-48-to-57 c = decimal c.args.c (omega arith) (omega arith)
 
-pub returns-then-c-lt58 : goal.returns-then-c-lt58
-returns-then-c-lt58 c = search (decimal, rules)
+pub returns-in-65-to-70 : goal.returns-in-65-to-70
+returns-in-65-to-70 c = upper c.args.c (omega arith) (omega arith)
 
-pub returns-then-c-lt65 : goal.returns-then-c-lt65
-returns-then-c-lt65 c = search (below_upper, rules)
+pub returns-in-97-to-102 : goal.returns-in-97-to-102
+returns-in-97-to-102 c = lower c.args.c (omega arith) (omega arith)
 
-pub returns-then-c-lt71 : goal.returns-then-c-lt71
-returns-then-c-lt71 c = search (upper, rules)
+pub returns-in_default : goal.returns-in_default
+returns-in_default c = below_digits c.args.c (omega arith)
 
-pub returns-then-c-lt97 : goal.returns-then-c-lt97
-returns-then-c-lt97 c = search (below_lower, rules)
+pub returns-in_default-2 : goal.returns-in_default-2
+returns-in_default-2 c = below_upper c.args.c (omega arith) (omega arith)
 
-pub returns-then-c-lt103 : goal.returns-then-c-lt103
-returns-then-c-lt103 c = search (lower, rules)
+pub returns-in_default-3 : goal.returns-in_default-3
+returns-in_default-3 c = below_lower c.args.c (omega arith) (omega arith)
 
-pub returns : goal.returns
-returns c = search (beyond_digits, rules)
+pub returns-in_default-4 : goal.returns-in_default-4
+returns-in_default-4 c = beyond_digits c.args.c (omega arith)

@@ -3,10 +3,7 @@ use borrow.Author.Rules.{rules}
 use Rattle.hex_read.proofs.read.Goals as goal
 
 pub store_lines-requires : goal.store_lines-requires
-store_lines-requires c = search (checked, rules)
+store_lines-requires c = search (checked, c.in_ok-check.ensures, rules)
 
-pub returns-then-r-eq0 : goal.returns-then-r-eq0
-returns-then-r-eq0 c = search (stored_all, rules)
-
-pub returns-else-r-eq0 : goal.returns-else-r-eq0
-returns-else-r-eq0 c = search (left_alone, rules)
+pub returns : goal.returns
+returns c = search (stored_all, c.in_ok-check.ensures, rules)

@@ -1,5 +1,4 @@
 use borrow.Author.Rules.{rules}
-use Prim.Native.Nat.{◌-◌}
 use native.Mathlib.Omega.{arith}
 use Rattle.hex_read.proofs.Storing.{begun, fits, long, end_met, line_stored, text_ended}
 use Rattle.hex_read.proofs.store_lines.Goals as goal

@@ -1,6 +1,5 @@
 use Rattle.hex_write.proofs.Lines.{chunk_bound}
 use borrow.Author.Rules.{rules}
-use Prim.Native.Nat.{◌-◌}
 use native.Mathlib.Omega.{arith}
 use Rattle.hex_write.proofs.Lines.{measure_begun, measured_more, measured}
 use Rattle.hex_write.proofs.measure.Goals as goal

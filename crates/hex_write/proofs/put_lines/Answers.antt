@@ -1,6 +1,5 @@
 use Rattle.hex_write.proofs.Lines.{end_same}
 use borrow.Author.Rules.{rules}
-use Prim.Native.Nat.{◌-◌}
 use native.Mathlib.Omega.{arith}
 use Rattle.hex_write.proofs.Lines.{part_few, begun, at_within, chunk_room, on, put, end_room, end_fits, end_put}
 use Rattle.hex_write.proofs.put_lines.Goals as goal
@@ -15,7 +14,7 @@ pub slice_bounds-put_chunk-start : goal.slice_bounds-put_chunk-start
 slice_bounds-put_chunk-start c = search (at_within, rules)
 
 pub put_chunk-at-requires : goal.put_chunk-at-requires
-put_chunk-at-requires c = (search rules, (search rules, (search rules, (search (part_few, rules), search (chunk_room, rules)))))
+put_chunk-at-requires c = (search rules, (search rules, (search (part_few, rules), search (chunk_room, rules))))
 
 pub overflow_add-at : goal.overflow_add-at
 overflow_add-at c = omega (arith, on c.loop-i.invariant c.requires.1 c.requires.0 c.loop-i-test.true c.chunk_end-end.ensures c.put_chunk-at.ensures)
@@ -30,7 +29,7 @@ pub slice_bounds-put_record-start : goal.slice_bounds-put_record-start
 slice_bounds-put_record-start c = search (at_within, rules)
 
 pub put_record-requires : goal.put_record-requires
-put_record-requires c = (search rules, (search rules, search (end_room, rules)))
+put_record-requires c = (search rules, search (end_room, rules))
 
 pub overflow_add-result : goal.overflow_add-result
 overflow_add-result c = omega (arith, end_fits c.loop-i.invariant c.requires.1 (omega arith) c.put_record.ensures)

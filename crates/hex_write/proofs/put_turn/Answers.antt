@@ -6,7 +6,7 @@ pub returns-then-a-g : goal.returns-then-a-g
 returns-then-a-g c = search (turned_none, rules)
 
 pub put_segment-requires : goal.put_segment-requires
-put_segment-requires c = (search rules, search (turn_room, rules))
+put_segment-requires c = search (turn_room, rules)
 
 pub returns : goal.returns
 returns c = search (turned, rules)

@@ -2,8 +2,8 @@ use Rattle.quick_do.proofs.Laws.{drops_cmp, keeps}
 use borrow.Author.Rules.{rules}
 use Rattle.quick_do.proofs.conclude.Goals as goal
 
-pub returns-then-r-ne7 : goal.returns-then-r-ne7
-returns-then-r-ne7 c = search (keeps, rules)
+pub returns-in-Cmp : goal.returns-in-Cmp
+returns-in-Cmp c = search (drops_cmp, rules)
 
-pub returns-else-r-ne7 : goal.returns-else-r-ne7
-returns-else-r-ne7 c = search (drops_cmp, rules)
+pub returns-in_default : goal.returns-in_default
+returns-in_default c = search (keeps, rules)

@@ -2,8 +2,8 @@ use Rattle.quick_memory.proofs.Laws.{drops_cmp, puts}
 use borrow.Author.Rules.{rules}
 use Rattle.quick_memory.proofs.put.Goals as goal
 
-pub returns-then-r-eq7 : goal.returns-then-r-eq7
-returns-then-r-eq7 c = search (drops_cmp, rules)
+pub returns-in-Cmp : goal.returns-in-Cmp
+returns-in-Cmp c = search (drops_cmp, rules)
 
-pub returns : goal.returns
-returns c = search (puts, rules)
+pub returns-in_default : goal.returns-in_default
+returns-in_default c = search (puts, rules)

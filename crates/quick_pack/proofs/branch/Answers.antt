@@ -1,6 +1,4 @@
 use Rattle.quick_pack.proofs.Laws.{call_near, ret_near, br_near, br_short, br_far}
-use Rattle.quick_pack.specs.Readings.{none}
-use mathlib.Core.Path.{refl}
 use borrow.Author.Rules.{rules}
 use Rattle.quick_pack.proofs.branch.Goals as goal
 
@@ -18,6 +16,3 @@ returns-in-BrShort c = search (br_short, rules)
 
 pub returns-in-BrFar : goal.returns-in-BrFar
 returns-in-BrFar c = search (br_far, rules)
-
-pub returns-in_default : goal.returns-in_default
-returns-in_default c = none refl

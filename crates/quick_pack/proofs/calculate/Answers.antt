@@ -1,7 +1,5 @@
 use Rattle.quick_pack.proofs.Laws.{known, test_register}
 use Rattle.sheet.specs.Groups.{Calculates}
-use Rattle.quick_pack.specs.Readings.{none}
-use mathlib.Core.Path.{refl}
 use borrow.Author.Rules.{rules}
 use Rattle.quick_pack.proofs.calculate.Goals as goal
 
@@ -13,6 +11,3 @@ returns-in-One c = search (known Calculates, rules)
 
 pub returns-in-Register : goal.returns-in-Register
 returns-in-Register c = search (test_register, rules)
-
-pub returns-in-Memory : goal.returns-in-Memory
-returns-in-Memory c = none refl

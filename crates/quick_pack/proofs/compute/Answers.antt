@@ -1,7 +1,5 @@
 use Rattle.quick_pack.proofs.Laws.{known, shift_one, shift_counted}
 use Rattle.sheet.specs.declared.Instr.TheVariants.{Computes}
-use Rattle.quick_pack.specs.Readings.{none}
-use mathlib.Core.Path.{refl}
 use borrow.Author.Rules.{rules}
 use Rattle.quick_pack.proofs.compute.Goals as goal
 
@@ -17,11 +15,5 @@ returns-in-One c = search (shift_one, rules)
 pub returns-in-Counted : goal.returns-in-Counted
 returns-in-Counted c = search (shift_counted, rules)
 
-pub returns-in-Bits : goal.returns-in-Bits
-returns-in-Bits c = none refl
-
 pub returns-in-Decimals : goal.returns-in-Decimals
 returns-in-Decimals c = search (known Computes, rules)
-
-pub returns-in-Fields : goal.returns-in-Fields
-returns-in-Fields c = none refl

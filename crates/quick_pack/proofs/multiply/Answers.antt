@@ -1,6 +1,4 @@
 use Rattle.quick_pack.proofs.Laws.{product_of}
-use Rattle.quick_pack.specs.Readings.{none}
-use mathlib.Core.Path.{refl}
 use borrow.Author.Rules.{rules}
 use Rattle.quick_pack.proofs.multiply.Goals as goal
 
@@ -15,6 +13,3 @@ returns-in-Divu c = search (product_of, rules)
 
 pub returns-in-Div : goal.returns-in-Div
 returns-in-Div c = search (product_of, rules)
-
-pub returns-in_default : goal.returns-in_default
-returns-in_default c = none refl

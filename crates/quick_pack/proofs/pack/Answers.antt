@@ -1,6 +1,4 @@
 use Rattle.quick_pack.proofs.Laws.{known}
-use Rattle.quick_pack.specs.Readings.{none}
-use mathlib.Core.Path.{refl}
 use borrow.Author.Rules.{rules}
 use Rattle.quick_pack.proofs.pack.Goals as goal
 
@@ -18,6 +16,3 @@ returns-in-Blocks c = search (known (λ i. i), rules)
 
 pub returns-in-Ports : goal.returns-in-Ports
 returns-in-Ports c = search (known (λ i. i), rules)
-
-pub returns-in_default : goal.returns-in_default
-returns-in_default c = none refl

@@ -1,11 +1,6 @@
 use Rattle.quick_pack.proofs.Laws.{product_is}
-use Rattle.quick_pack.specs.Readings.{none}
-use mathlib.Core.Path.{refl}
 use borrow.Author.Rules.{rules}
 use Rattle.quick_pack.proofs.product.Goals as goal
 
 pub returns-in-Register : goal.returns-in-Register
 returns-in-Register c = search (product_is, rules)
-
-pub returns-in-Memory : goal.returns-in-Memory
-returns-in-Memory c = none refl

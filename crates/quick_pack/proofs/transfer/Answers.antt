@@ -1,7 +1,5 @@
 use Rattle.quick_pack.proofs.Laws.{known, load_acc, store_acc, from_segment_is, ldea_is, xch_is}
 use Rattle.sheet.specs.Groups.{Transfers}
-use Rattle.quick_pack.specs.Readings.{none}
-use mathlib.Core.Path.{refl}
 use borrow.Author.Rules.{rules}
 use Rattle.quick_pack.proofs.transfer.Goals as goal
 
@@ -17,17 +15,8 @@ returns-in-StoreAcc c = search (store_acc, rules)
 pub returns-in-Register : goal.returns-in-Register
 returns-in-Register c = search (from_segment_is, rules)
 
-pub returns-in-Memory : goal.returns-in-Memory
-returns-in-Memory c = none refl
-
 pub returns-in-Ldea : goal.returns-in-Ldea
 returns-in-Ldea c = search (ldea_is, rules)
 
 pub returns-in-Register-with : goal.returns-in-Register-with
 returns-in-Register-with c = search (xch_is, rules)
-
-pub returns-in-Memory-with : goal.returns-in-Memory-with
-returns-in-Memory-with c = none refl
-
-pub returns-in_default : goal.returns-in_default
-returns-in_default c = none refl

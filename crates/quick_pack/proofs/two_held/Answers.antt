@@ -1,6 +1,4 @@
 use Rattle.quick_pack.proofs.Laws.{two_from_register, two_from_memory}
-use Rattle.quick_pack.specs.Readings.{none}
-use mathlib.Core.Path.{refl}
 use borrow.Author.Rules.{rules}
 use Rattle.quick_pack.proofs.two_held.Goals as goal
 
@@ -9,6 +7,3 @@ returns-in-Register c = search (two_from_register, rules)
 
 pub returns-in-Register-to : goal.returns-in-Register-to
 returns-in-Register-to c = search (two_from_memory, rules)
-
-pub returns-in-Memory-to : goal.returns-in-Memory-to
-returns-in-Memory-to c = none refl

@@ -1,9 +1,9 @@
-use Rattle.quick_port.proofs.Laws.{port_held, port_named}
+use Rattle.quick_port.proofs.Laws.{port_named, port_held}
 use borrow.Author.Rules.{rules}
 use Rattle.quick_port.proofs.port_of.Goals as goal
 
-pub returns-then-r-eq8 : goal.returns-then-r-eq8
-returns-then-r-eq8 c = search (port_named, rules)
+pub returns-then-rm-eq-NO_FORM : goal.returns-then-rm-eq-NO_FORM
+returns-then-rm-eq-NO_FORM c = search (port_named, rules)
 
 pub returns : goal.returns
 returns c = search (port_held, rules)

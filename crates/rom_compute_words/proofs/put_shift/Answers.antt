@@ -1,6 +1,6 @@
-use Rattle.rom_mnemonic.proofs.Laws.{after_two_known, two_added}
+use Rattle.rom_mnemonic.proofs.Laws.{two_known}
 use borrow.Author.Rules.{rules}
 use Rattle.rom_compute_words.proofs.put_shift.Goals as goal
 
 pub returns : goal.returns
-returns c = search (two_added, after_two_known, rules)
+returns c = search (two_known, rules)

@@ -1,9 +1,10 @@
-use Rattle.rom_mnemonic.proofs.Laws.{byte_value, word_value}
-use borrow.Author.Rules.{rules}
+use mathlib.Core.Path.{refl}
+use Rattle.rom_mnemonic.proofs.Laws.{value_added}
 use Rattle.rom_mnemonic.proofs.put_value.Goals as goal
-
-pub returns-then-word : goal.returns-then-word
-returns-then-word c = search (word_value, rules)
+use Rattle.rom_mnemonic.proofs.put_value.Goals.{then-word, else-word}
 
 pub returns : goal.returns
-returns c = search (byte_value, rules)
+returns c =
+    value_added _ _ _
+    (elim c.if-word.branch [ then-word w ↦ rw (w.if-word.true, w.digits-is) refl | else-word w ↦ rw (w.if-word.false, w.digits-is) refl ])
+    c.push_hex.ensures

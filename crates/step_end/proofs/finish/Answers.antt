@@ -5,5 +5,5 @@ use Rattle.step_end.proofs.finish.Goals as goal
 pub returns-then-traced : goal.returns-then-traced
 returns-then-traced c = search (finishes_traced, rules)
 
-pub returns : goal.returns
-returns c = search (finishes_untraced, rules)
+pub returns-else-traced : goal.returns-else-traced
+returns-else-traced c = search (finishes_untraced, rules)

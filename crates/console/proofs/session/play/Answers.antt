@@ -1,9 +1,16 @@
 use Rattle.std.proofs.Common.{rules}
 use Rattle.console.specs.Turns.{none, more}
+use Rattle.console.proofs.TurnLaws.{plays_over, plays_spent}
 use Rattle.console.proofs.session.play.Goals as goal
 
-pub loop-done-init : goal.loop-done-init
-loop-done-init c = search (none, rules)
+pub loop-turn-init : goal.loop-turn-init
+loop-turn-init c = search (none, rules)
 
-pub loop-done-preserved : goal.loop-done-preserved
-loop-done-preserved c = search (more, rules)
+pub loop-turn-preserved : goal.loop-turn-preserved
+loop-turn-preserved c = search (more, rules)
+
+pub returns-then-s : goal.returns-then-s
+returns-then-s c = search (plays_over, rules)
+
+pub returns : goal.returns
+returns c = search (plays_spent, rules)

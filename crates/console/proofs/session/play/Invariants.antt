@@ -1,9 +1,6 @@
-use Rattle.std.proofs.Common.{◌≤◌, ◌-◌}
+-- So many turns are played.
 use Rattle.console.specs.Turns.{Turns}
 use Rattle.console.proofs.session.play.Given as goal
 
-abbrev pub invariant-loop-done : goal.invariant-loop-done
-invariant-loop-done l = (l.done ≤ l.turns) × Turns l.calls l.plan l.initial.stand l.initial.ram l.rom l.tape l.initial.log l.done l.stand l.ram l.log
-
-abbrev pub decreases-loop-done : goal.decreases-loop-done
-decreases-loop-done l = l.turns - l.done
+abbrev pub invariant-loop-turn : goal.invariant-loop-turn
+invariant-loop-turn l = Turns l.set.calls.now l.set.plan l.initial.s l.initial.ram l.set.rom.now l.set.tape.now l.initial.log l._turn l.s l.ram l.log

@@ -1,20 +1,11 @@
-use native.Mathlib.Omega.{arith}
-use borrow.Author.Tests.{not-true, not-false}
-use mathlib.Core.Path.{refl}
-use Rattle.quick_run.proofs.StepLaws.{general_fits, turns_done, turns_stop}
+use Rattle.std.proofs.lemmas.Result.{err_from_is_err_and}
 use borrow.Author.Rules.{rules}
 use Rattle.quick_run.proofs.step.general.Goals as goal
 
-pub returns-then-not-a : goal.returns-then-not-a
-returns-then-not-a c =
-    turns_stop _ _ c.args.stand.now _ _ _ _ _ _ _ _ _ (search rules) (search rules) c.advance-a.ensures _ (not-true _ c.if-not-a.true) refl (search rules) c.requires
-
-pub keep-requires : goal.keep-requires
-keep-requires c = c.requires
-
-pub overflow_add-result : goal.overflow_add-result
-overflow_add-result c = omega (arith, general_fits _ _ c.advance-a.ensures.most c.of_bus-n.ensures)
-
 pub returns : goal.returns
-returns c =
-    turns_done _ _ c.args.stand.now _ _ _ _ _ _ _ _ _ (search rules) (search rules) c.advance-a.ensures _ _ _ (not-false _ c.if-not-a.false) c.keep.ensures c.of_bus-n.ensures refl
+returns c = search (c.in_ok-done.ensures, rules)
+
+pub returns-in_err-done : goal.returns-in_err-done
+returns-in_err-done c =
+    let p = err_from_is_err_and c.from_residual.result c.from_residual.ensures.1 in
+    rw (p.1, p.2) (search (c.in_err-done.ensures, rules))

@@ -9,8 +9,8 @@ slice_bounds-put_instr_line-end c =
     let w = whole_fits _ _ (sym c.lies.ensures ∙ c.if-lies.true) in
     omega (arith, w.0)
 
-pub put_instr_line-len-requires : goal.put_instr_line-len-requires
-put_instr_line-len-requires c =
+pub put_instr_line-requires : goal.put_instr_line-requires
+put_instr_line-requires c =
     let w = whole_fits _ _ (sym c.lies.ensures ∙ c.if-lies.true) in
     part_short _ _ _ w.1
 
@@ -20,5 +20,5 @@ returns-then-lies c = search (instr_made, rules)
 pub returns-else-lies : goal.returns-else-lies
 returns-else-lies c = search (cut_made, rules)
 
-pub returns-in-Unknown : goal.returns-in-Unknown
-returns-in-Unknown c = search (unknown_made, rules)
+pub returns-in-Err : goal.returns-in-Err
+returns-in-Err c = search (unknown_made, rules)

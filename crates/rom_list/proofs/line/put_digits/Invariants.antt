@@ -1,12 +1,8 @@
-use Prim.Native.Nat.{◌-◌, ◌≤◌}
-use lib.ListN.{length, take}
+use lib.ListN.{take}
 use Rattle.base_line.specs.Adds.{Adds}
 use Rattle.rom_form.specs.Listing.{bytes_text}
 use Rattle.rom_list.proofs.line.put_digits.Given as goal
 
--- `rom_list::line::put_digits` meets its contract. The loop's invariant: the first i bytes stand in the line.
-abbrev pub invariant-loop-i : goal.invariant-loop-i
-invariant-loop-i l = (l.i ≤ length l.bytes) × Adds (bytes_text (take l.i l.bytes)) l.initial.line l.at l.end l.line
-
-abbrev pub decreases-loop-i : goal.decreases-loop-i
-decreases-loop-i l = length l.bytes - l.i
+-- the bytes before the index stand in the line
+abbrev pub invariant-loop-b : goal.invariant-loop-b
+invariant-loop-b l = Adds (bytes_text (take l.b-index l.bytes)) l.initial.line l.line

@@ -6,5 +6,5 @@ use Rattle.rom_list.proofs.rebuild.high_after.Goals as goal
 pub returns-then-is_digit : goal.returns-then-is_digit
 returns-then-is_digit c = search (digit_kept, rules)
 
-pub returns : goal.returns
-returns c = search (no_digit_keeps, rules)
+pub returns-else-is_digit : goal.returns-else-is_digit
+returns-else-is_digit c = search (no_digit_keeps, rules)

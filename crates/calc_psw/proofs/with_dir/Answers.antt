@@ -1,6 +1,0 @@
-use Rattle.sheet.specs.Psw.{settled}
-use Rattle.calc_psw.proofs.with_dir.Goals as goal
-
-pub returns : goal.returns
-unfolding settled
-returns c = cc

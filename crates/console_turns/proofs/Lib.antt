@@ -1,3 +1,0 @@
-pub mod BudgetLaws
-pub mod AfterLaws
-pub mod ComingLaws

@@ -1,6 +1,0 @@
-use Rattle.quick_perform.proofs.GeneralLaws.{convert_is}
-use borrow.Author.Rules.{rules}
-use Rattle.quick_perform.proofs.general.convert.Goals as goal
-
-pub returns : goal.returns
-returns c = search (convert_is, rules)

@@ -1,6 +1,0 @@
-use Rattle.quick_perform.proofs.RarerLaws.{br_far_is}
-use borrow.Author.Rules.{rules}
-use Rattle.quick_perform.proofs.rarer.br_far.Goals as goal
-
-pub returns : goal.returns
-returns c = search (br_far_is, rules)
