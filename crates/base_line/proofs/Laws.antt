@@ -4,7 +4,7 @@ use mathlib.Core.Path.{◌≡◌, ◌∙◌, sym, ap}
 use mathlib.Core.List.{List, [], ◌∷◌, ◌++◌, append_assoc, append-nil}
 use native.Mathlib.Omega.{arith}
 use lib.ListN.{length, length-append}
-use Rattle.base_line.specs.Adds.{Adds}
+use Rattle.base_line.specs.Adds.{Adds, Puts}
 
 pub nothing : (line : List ℕ) → Adds [] line line
 nothing line = record { adds = λ m. sym (append-nil line) }
@@ -28,3 +28,12 @@ adds_known text e h = rw e h
 -- likewise where the text also depends on a number
 pub adds_known_at : {I : Type 0} (text : ℕ → I → List ℕ) {n : ℕ} {i j : I} {line line' : List ℕ} → i ≡ j → Adds (text n j) line line' → Adds (text n i) line line'
 adds_known_at text {n} = adds_known (text n)
+
+-- a text that was put into an empty line, and that line's text into 80 bytes
+pub puts_line : {x line s s' : List ℕ} {at r : ℕ} → Adds x [] line → Puts line s at r s' → Puts x s at r s'
+puts_line {x} a p =
+    record {
+      puts = λ t m h.
+          let e = a.adds (omega (arith, m, length-append t x)) in
+          rw (← e) (p.puts t (rw e m) h);
+    }

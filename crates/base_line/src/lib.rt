@@ -4,7 +4,7 @@
 
 ghost use Rattle.std.specs.Prelude.{◌≡◌, ◌≤◌, ℕ, List, [], ◌∷◌, length, take, replicate};
 ghost use Rattle.base_text.specs.Text.{hex};
-ghost use Rattle.base_line.specs.Adds.{AddsTo};
+ghost use Rattle.base_line.specs.Adds.{AddsTo, PutsTo};
 
 use std::marker::Model;
 
@@ -85,4 +85,34 @@ impl Line {
             self.push(base_text::hex_digit(n % 16));
         }
     }
+}
+
+// ---- into 80 bytes that the caller has, behind what ends at a place; each answers where its text ends, and cuts off what has no room
+
+pub fn put_word(line: &mut [u8; 80], at: usize, x: &[u8]) -> usize
+    ensures { PutsTo x.now line at result }
+{
+    if at <= ROOM && x.len() <= ROOM - at {
+        return at + base_text::put_bytes(&mut line[at..], x);
+    }
+    if at < ROOM {
+        return at + base_text::put_bytes(&mut line[at..], &x[..ROOM - at]);
+    }
+    at
+}
+
+pub fn put_byte(line: &mut [u8; 80], at: usize, b: u8) -> usize
+    ensures { PutsTo (b ∷ []) line at result }
+{
+    put_word(line, at, &[b])
+}
+
+// The low w hex digits of n.
+#[tactic(auto, using(crate::proofs::Laws::puts_line))]
+pub fn put_hex(line: &mut [u8; 80], at: usize, n: u64, w: usize) -> usize
+    ensures { PutsTo (hex w n) line at result }
+{
+    let mut digits = Line::new();
+    digits.push_hex(n, w);
+    put_word(line, at, digits.as_bytes())
 }

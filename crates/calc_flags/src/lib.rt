@@ -46,9 +46,11 @@ const FIXED: u16 = 0x7002;
 
 // The flag, or MD, whose bit is this power of two.
 pub fn flag<const WEIGHT: u16>(psw: u16) -> bool
-    requires { 0 < WEIGHT }
     ensures { result ≡ at psw WEIGHT }
 {
+    if WEIGHT == 0 {
+        return false;
+    }
     psw / WEIGHT % 2 == 1
 }
 

@@ -1,7 +1,7 @@
 // The bytes of a case stream: numbers of two and four bytes, and buffers that are patched and summed.
 #![tactic(auto)]
 
-ghost use Rattle.std.specs.Prelude.{◌≡◌, ◌+◌, ◌/◌, ◌≤◌, length, set};
+ghost use Rattle.std.specs.Prelude.{◌≡◌, ◌+◌, ◌*◌, ◌/◌, ◌≤◌, length, set};
 ghost use Rattle.case_bytes.specs.Numbers.{word_at, double_at, word_put, double_put};
 ghost use Rattle.case_bytes.specs.Buffers.{mixed, sum_of, patched_at, patched, kinds_of};
 
@@ -84,11 +84,12 @@ fn patch(buffer: &mut [u8], kind: u8, patches: &[u8], at: usize)
     }
 }
 
-// Whether the patches are of kinds that there are.
-pub fn kinds(patches: &[u8]) -> bool
-    ensures { result ≡ kinds_of patches.now (length patches.now / 6) }
+// Whether the first n patches are of kinds that there are.
+pub fn kinds(patches: &[u8], n: usize) -> bool
+    requires { n * 6 ≤ length patches.now }
+    ensures { result ≡ kinds_of patches.now n }
 {
-    for i in 0..patches.len() / 6 {
+    for i in 0..n {
         if 2 < patches[i * 6] {
             return false;
         }
@@ -96,11 +97,26 @@ pub fn kinds(patches: &[u8]) -> bool
     true
 }
 
-// The patches, as far as they are of the kind.
-pub fn patch_all(buffer: &mut [u8], kind: u8, patches: &[u8])
-    ensures { buffer.new ≡ patched kind patches.now (length patches.now / 6) buffer.old }
+// Whether all whole patches are.
+pub fn all_kinds(patches: &[u8]) -> bool
+    ensures { result ≡ kinds_of patches.now (length patches.now / 6) }
 {
-    for i in 0..patches.len() / 6 {
+    kinds(patches, patches.len() / 6)
+}
+
+// The first n patches, as far as they are of the kind.
+pub fn patch_all(buffer: &mut [u8], kind: u8, patches: &[u8], n: usize)
+    requires { n * 6 ≤ length patches.now }
+    ensures { buffer.new ≡ patched kind patches.now n buffer.old }
+{
+    for i in 0..n {
         patch(buffer, kind, patches, i * 6);
     }
+}
+
+// All whole patches, as far as they are of the kind.
+pub fn patch_whole(buffer: &mut [u8], kind: u8, patches: &[u8])
+    ensures { buffer.new ≡ patched kind patches.now (length patches.now / 6) buffer.old }
+{
+    patch_all(buffer, kind, patches, patches.len() / 6);
 }

@@ -129,5 +129,5 @@ pub fn lay_out(buffer: &mut [u8], fill: u8, kind: u8, patches: &[u8])
     ensures { buffer.new ≡ laid buffer.old fill kind patches.now }
 {
     buffer.fill(fill);
-    case_bytes::patch_all(buffer, kind, patches);
+    case_bytes::patch_whole(buffer, kind, patches);
 }

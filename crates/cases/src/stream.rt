@@ -73,7 +73,7 @@ fn serve(
     let patches = &mut patches[..c.patches * 6];
     read_whole(rt, patches)?;
     read_whole(rt, tape)?;
-    if !case_bytes::kinds(patches) {
+    if !case_bytes::all_kinds(patches) {
         return Err(End::Unfit);
     }
     crate::call::lay_out(ram, c.fill, 0, patches);

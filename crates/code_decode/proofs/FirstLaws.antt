@@ -8,11 +8,14 @@ use native.Mathlib.Omega.{arith}
 use lib.Dec.{leb}
 use borrow.Author.Tests.{leb-true, lt-leb}
 use Rattle.sheet.specs.declared.Prefixes.{Prefixes}
-use Rattle.sheet.specs.Reading.{no}
+use Rattle.sheet.specs.Reading.{no, scan}
 use Rattle.sheet.specs.Encoding.{Row, look_up}
 use Rattle.sheet.specs.FirstByte.{bytes00, bytes40, bytes80, bytes_c0, first_bytes}
 use Rattle.sheet.proofs.TableLaws.{below}
-use Rattle.code_answer.specs.Answer.{Answer, Names}
+use Rattle.code_answer.specs.Answer.{Answer, Decodes, Names}
+use Rattle.std.specs.Prelude.{Err}
+use Rattle.sheet.specs.declared.Refusal.{Refusal}
+use Rattle.sheet.specs.Refusals.{refusal_number}
 use Rattle.code_answer.proofs.DecodesLaws.{decodes_as}
 use Rattle.code_answer.proofs.CodeLaws.{above_row}
 
@@ -61,3 +64,8 @@ module _ (p : Prefixes) {b : ℕ} {src : ℕ → ℕ} {i : ℕ} {r : Answer Inst
       let k : 0x40 ≤ b = omega arith in
       let m : 0x80 ≤ b = omega arith in
       record { is = decodes_as (in_second (bytes00 p) _ 0x40 b refl k ∙ (in_second (bytes40 p) _ 0x80 b refl m ∙ in_second (bytes80 p) _ 0xc0 b refl l)) x.is }
+
+-- a reading that refuses, by any refusal
+pub decodes_no_by : {I : Type 0} {src : ℕ → ℕ} {i : ℕ} (e : Refusal) → Decodes {I = I} (no (refusal_number e)) src i (Err e)
+unfolding scan
+decodes_no_by e = record { is = refl }

@@ -16,11 +16,15 @@ pub fn decode(ram: &[u8], rom: &[u8], ps: u16, pc: u16) -> Result<Decoded, Refus
     ensures { Decodes instruction (code_byte ram.now rom.now ps pc) 0 result }
 {
     let code = Code { ram, rom, ps, pc };
-    let o = code_prefix::start(code)?;
-    let r = Reader {
-        code,
-        prefixes: o.prefixes,
-        read: o.next,
-    };
-    first::first(r, o.byte)
+    match code_prefix::start(code) {
+        Ok(o) => {
+            let r = Reader {
+                code,
+                prefixes: o.prefixes,
+                read: o.next,
+            };
+            first::first(r, o.byte)
+        }
+        Err(refusal) => Err(refusal),
+    }
 }

@@ -38,8 +38,8 @@ impl Files {
         counts: &Counts,
     ) -> Result<Option<File>, Reported> {
         let used = console_files::within(s.state.progress.log, log);
-        console_files::keep(rt, self.log, "the log", &log[..used])?;
-        console_files::keep(rt, self.ram, "RAM", ram)?;
+        console_files::keep(rt, self.log, b"the log", &log[..used])?;
+        console_files::keep(rt, self.ram, b"RAM", ram)?;
         crate::watch::keep_counts(rt, self.seen, counts)?;
         Ok(self.report)
     }

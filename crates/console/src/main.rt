@@ -14,7 +14,7 @@ ghost use Rattle.console_turns.specs.Stand.{begun};
 ghost use Rattle.console.specs.Lent.{PlaysOn};
 
 use arguments::Argument;
-use console_files::{Clock, Reported};
+use console_files::{Clock, Reported, say, say_number};
 use console_schedule::{Call, MOST};
 use console_trace::seen::Counts;
 use console_turns::{Plan, Session};
@@ -122,7 +122,9 @@ fn watched(rt: HostRuntime) -> Watch {
 // The step limit.
 fn step_limit(rt: HostRuntime) -> Result<u64, Reported> {
     Argument::Steps.number_or(rt, STEPS).ok_or_else(|| {
-        let _ = eprintln!(rt; "v30: --steps takes a number from 0 to {}", MOST);
+        say(rt, b"v30: --steps takes a number from 0 to ");
+        say_number(rt, MOST);
+        say(rt, b"\n");
         Reported
     })
 }
@@ -135,22 +137,25 @@ fn ram_size(rt: HostRuntime, rom: usize) -> Result<usize, Reported>
     match Argument::Ram.number_or(rt, most) {
         Some(size) if size <= most => Ok(size as usize),
         _ => {
-            let _ = eprintln!(rt;
-                "v30: --ram takes a number from 0 to {most}, what the ROM leaves of 1048576"
-            );
+            say(rt, b"v30: --ram takes a number from 0 to ");
+            say_number(rt, most);
+            say(rt, b", what the ROM leaves of 1048576\n");
             Err(Reported)
         }
     }
 }
 
-// Reads the schedule of interrupt calls, and answers how many there are.
+// Reads the schedule of interrupt calls, and answers how many there are. As a call of its own it gives its buffer back before a session.
+#[inline(never)]
 fn load_schedule(rt: HostRuntime, calls: &mut [Call]) -> Result<usize, Reported>
     ensures { IfOk result (λ n. n ≤ length calls.new) }
 {
     let mut text: [u8; ADDRESSES] = bytes();
     let size = Argument::Interrupts.load(rt, &mut text)?;
     console_schedule::read(&text[..size], calls).map_err(|faulty| {
-        let _ = eprintln!(rt; "v30: --interrupts: {faulty}");
+        say(rt, b"v30: --interrupts: line ");
+        say_number(rt, faulty.number as u64);
+        let _ = eprintln!(rt; " {}", faulty.fault);
         Reported
     })
 }
@@ -160,7 +165,7 @@ fn run(rt: HostRuntime) -> Result<(), Reported> {
     let mut rom: [u8; ADDRESSES] = bytes();
     let size = Argument::Rom.load(rt, &mut rom)?;
     if size == 0 {
-        let _ = eprintln!(rt; "v30: the ROM is empty");
+        say(rt, b"v30: the ROM is empty\n");
         return Err(Reported);
     }
     let mut tape: [u8; ADDRESSES] = bytes();

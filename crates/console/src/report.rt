@@ -4,23 +4,22 @@ use console_files::Reported;
 use console_turns::{Plan, Session};
 use sheet::Refusal;
 use std::fs::File;
-use std::io;
 use std::io::Write;
 
-// What a refusal says of a session that it ends.
+// The line that a refusal says of a session that it ends.
 fn words(refusal: Refusal) -> &'static str {
     match refusal {
-        Refusal::TooMuchMemory => "RAM and ROM are too long",
-        Refusal::BadState => "the machine's state is not sound",
-        Refusal::UnknownInstruction => "the bytes at PS:PC are no instruction",
-        Refusal::FourthPrefix => "the instruction at PS:PC has a fourth prefix",
-        Refusal::TapeTooShort => "the tape is read to its end and the program wants more",
+        Refusal::TooMuchMemory => "RAM and ROM are too long\n",
+        Refusal::BadState => "the machine's state is not sound\n",
+        Refusal::UnknownInstruction => "the bytes at PS:PC are no instruction\n",
+        Refusal::FourthPrefix => "the instruction at PS:PC has a fourth prefix\n",
+        Refusal::TapeTooShort => "the tape is read to its end and the program wants more\n",
         Refusal::NoRoom => {
-            "the log is full; --steps or --until stop earlier, and without --log it goes on"
+            "the log is full; --steps or --until stop earlier, and without --log it goes on\n"
         }
-        Refusal::Halted => "the machine is halted",
+        Refusal::Halted => "the machine is halted\n",
         // no run ends so
-        _ => "",
+        _ => "\n",
     }
 }
 
@@ -28,55 +27,67 @@ fn words(refusal: Refusal) -> &'static str {
 fn why(s: Session, plan: Plan) -> (u8, &'static str) {
     match s.end {
         Err(refusal) => (refusal.number(), words(refusal)),
-        Ok(()) if s.steps < plan.limit => (0, "the address is reached"),
-        Ok(()) => (0, "the step limit is reached"),
+        Ok(()) if s.steps < plan.limit => (0, "the address is reached\n"),
+        Ok(()) => (0, "the step limit is reached\n"),
     }
+}
+
+// Each part is tried, also behind one that could not be written.
+
+fn print(out: &mut impl Write, text: &str) -> bool {
+    out.write_all(text.as_bytes()).is_ok()
+}
+
+// A number behind a text.
+fn print_number(out: &mut impl Write, text: &str, n: u64) -> bool {
+    print(out, text) & write!(out, "{n}").is_ok()
+}
+
+// The bytes that were written outside RAM, where there are any, and how to find who wrote them.
+fn print_drops(out: &mut impl Write, dropped: u64) -> bool {
+    if dropped == 0 {
+        return true;
+    }
+    print_number(out, "\ndropped ", dropped)
+        & print(out, " bytes; v30 trace --drops shows which steps")
 }
 
 // The machine's counts.
-fn print_sums(out: &mut impl Write, s: Session, set: Setting<'_>) -> io::Result<()> {
-    let read = s.state.progress.tape;
+fn print_sums(out: &mut impl Write, s: Session, set: Setting<'_>) -> bool {
+    let read = s.state.progress.tape as u64;
     let written = s.emptied.wrapping_add(s.state.progress.log as u64);
-    writeln!(out, "steps {}", s.steps)?;
-    writeln!(out, "bus cycles {}", s.cycles)?;
-    if s.dropped != 0 {
-        // and how to find who wrote outside RAM
-        writeln!(
-            out,
-            "dropped {} bytes; v30 trace --drops shows which steps",
-            s.dropped
-        )?;
-    }
-    writeln!(out, "tape {read} of {} bytes", set.tape.len())?;
-    writeln!(out, "log {written} bytes")
+    print_number(out, "steps ", s.steps)
+        & print_number(out, "\nbus cycles ", s.cycles)
+        & print_drops(out, s.dropped)
+        & print_number(out, "\ntape ", read)
+        & print_number(out, " of ", set.tape.len() as u64)
+        & print_number(out, " bytes\nlog ", written)
+        & print(out, " bytes\n")
 }
 
 // What the schedule came to, where there is one.
-fn print_calls(out: &mut impl Write, s: Session, set: Setting<'_>) -> io::Result<()> {
+fn print_calls(out: &mut impl Write, s: Session, set: Setting<'_>) -> bool {
     if set.calls.is_empty() {
-        return Ok(());
+        return true;
     }
-    writeln!(
-        out,
-        "interrupts {} of {} called, {} refused",
-        s.made,
-        set.calls.len(),
-        s.refused
-    )
+    print_number(out, "interrupts ", s.made as u64)
+        & print_number(out, " of ", set.calls.len() as u64)
+        & print_number(out, " called, ", s.refused)
+        & print(out, " refused\n")
 }
 
-fn print_end(out: &mut impl Write, s: Session, plan: Plan) -> io::Result<()> {
+fn print_end(out: &mut impl Write, s: Session, plan: Plan) -> bool {
     let (number, words) = why(s, plan);
-    writeln!(out, "stopped with {number}: {words}")
+    print_number(out, "stopped with ", number as u64) & print(out, ": ") & print(out, words)
 }
 
 // The whole report, its last line last so that a report that is cut short is known.
 fn is_printed(out: &mut impl Write, s: Session, ram: &[u8], set: Setting<'_>) -> bool {
-    print_sums(out, s, set).is_ok()
-        && print_calls(out, s, set).is_ok()
-        && console_trace::write_registers(out, s.state.file)
-        && console_trace::write_stand(out, s.state, ram, set.rom)
-        && print_end(out, s, set.plan).is_ok()
+    print_sums(out, s, set)
+        & print_calls(out, s, set)
+        & console_trace::write_registers(out, s.state.file)
+        & console_trace::write_stand(out, s.state, ram, set.rom)
+        & print_end(out, s, set.plan)
 }
 
 // Writes the report, and says so where it cannot.
@@ -88,6 +99,9 @@ pub fn keep(
     set: Setting<'_>,
 ) -> Result<(), Reported> {
     let mut to = console_files::descriptor(rt, file);
-    let written = is_printed(&mut to, s, ram, set);
-    console_files::check_written(rt, "the report", written)
+    if is_printed(&mut to, s, ram, set) {
+        return Ok(());
+    }
+    console_files::say(rt, b"v30: cannot write the report\n");
+    Err(Reported)
 }

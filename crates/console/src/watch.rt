@@ -101,8 +101,11 @@ pub fn keep_counts(rt: HostRuntime, file: Option<File>, counts: &Counts) -> Resu
     match file {
         None => Ok(()),
         Some(mut file) => {
-            let written = counts.write(&mut file);
-            console_files::check_written(rt, "the addresses", written)
+            if counts.write(&mut file) {
+                return Ok(());
+            }
+            console_files::say(rt, b"v30: cannot write the addresses\n");
+            Err(Reported)
         }
     }
 }

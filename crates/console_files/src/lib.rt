@@ -184,18 +184,25 @@ pub fn descriptor(rt: HostRuntime, file: Option<File>) -> Destination {
 }
 
 // Says so where something could not be written.
-pub fn check_written(rt: HostRuntime, what: &str, written: bool) -> Result<(), Reported>
+pub fn check_written(rt: HostRuntime, what: &[u8], written: bool) -> Result<(), Reported>
     ensures { is_ok result ≡ written }
 {
     if written {
         return Ok(());
     }
-    let _ = eprintln!(rt; "v30: cannot write {what}");
+    say(rt, b"v30: cannot write ");
+    say(rt, what);
+    say(rt, b"\n");
     Err(Reported)
 }
 
 // Writes bytes to a file that is wanted, and says so where it cannot.
-pub fn keep(rt: HostRuntime, file: Option<File>, what: &str, bytes: &[u8]) -> Result<(), Reported> {
+pub fn keep(
+    rt: HostRuntime,
+    file: Option<File>,
+    what: &[u8],
+    bytes: &[u8],
+) -> Result<(), Reported> {
     match file {
         None => Ok(()),
         Some(mut file) => check_written(rt, what, Write::write_all(&mut file, bytes).is_ok()),
@@ -205,8 +212,8 @@ pub fn keep(rt: HostRuntime, file: Option<File>, what: &str, bytes: &[u8]) -> Re
 // The second that was seen last, where the clock can be read, and how many have changed since the last line.
 #[derive(Clone, Copy)]
 pub struct Clock {
-    second: Option<u64>,
-    changes: u8,
+    pub second: Option<u64>,
+    pub changes: u8,
 }
 
 // The clock's second, where it can be read.
@@ -234,6 +241,8 @@ impl Clock {
             return;
         }
         self.changes = 0;
-        let _ = eprintln!(rt; "v30: {steps} steps so far");
+        say(rt, b"v30: ");
+        say_number(rt, steps);
+        say(rt, b" steps so far\n");
     }
 }

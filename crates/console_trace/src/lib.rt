@@ -14,27 +14,39 @@ use std::io::Write;
 use std::num::wrapping_add_u16;
 use target::Target;
 
+// A line of spaces.
+pub fn blank() -> [u8; 80] {
+    [b' '; 80]
+}
+
+// Writes a line's text up to its end.
+pub fn write(out: &mut impl Write, line: [u8; 80], end: usize) -> bool {
+    let n = console_files::within(end, &line);
+    out.write_all(&line[..n]).is_ok()
+}
+
 // Writes a line's text.
-pub fn write(out: &mut impl Write, line: &Line) -> bool {
+pub fn write_text(out: &mut impl Write, line: &Line) -> bool {
     out.write_all(line.as_bytes()).is_ok()
 }
 
 // A number in decimal digits.
-pub fn put_decimal(line: &mut Line, n: u64) {
+pub fn push_decimal(line: &mut Line, n: u64) {
     let mut digits = [0u8; 20];
     let k = io::decimal(n, &mut digits);
     line.push_bytes(&digits[..k]);
 }
 
-// A number that ends in column 8, if it has no more digits, and a space behind it.
-fn column_of(n: u64) -> Line {
+// The same behind what ends at a place of a line: where it ends.
+pub fn put_decimal(line: &mut [u8; 80], at: usize, n: u64) -> usize {
     let mut digits = [0u8; 20];
     let k = io::decimal(n, &mut digits);
-    let mut line = Line::new();
-    line.push_spaces(8usize.saturating_sub(k));
-    line.push_bytes(&digits[..k]);
-    line.push_spaces(WORDS.saturating_sub(line.len()));
-    line
+    base_line::put_word(line, at, &digits[..k])
+}
+
+// Where a number begins so that it ends in column 8, if it has no more digits.
+fn begin(n: u64) -> usize {
+    8usize.saturating_sub(io::decimal(n, &mut [0u8; 20]))
 }
 
 // The code byte at an offset.
@@ -69,7 +81,7 @@ fn put_known(
     rom: &[u8],
 ) -> Target {
     let next = mach_memory::address(file[PS], wrapping_add_u16(file[PC], size));
-    rom_words::put_instr(line, next as u32, instr);
+    rom_words::put_words(line, next as u32, instr);
     put_behind(line, file, size, ram, rom);
     target::of(file, instr)
 }
@@ -112,7 +124,7 @@ pub struct Traffic {
 fn put_cycles(line: &mut Line, cycles: u64) {
     if cycles > 0 {
         line.push_str("  bus ");
-        put_decimal(line, cycles);
+        push_decimal(line, cycles);
     }
 }
 
@@ -129,7 +141,7 @@ fn place_of(to: Target, file: &[u16; 14]) -> usize {
 fn put_drops(line: &mut Line, bus: Traffic, file: &[u16; 14]) {
     if bus.dropped > 0 {
         line.push_str("  dropped ");
-        put_decimal(line, bus.dropped);
+        push_decimal(line, bus.dropped);
         line.push_str(" to ");
         line.push_hex(place_of(bus.to, file) as u64, 5);
     }
@@ -163,31 +175,46 @@ const WORDS: usize = 9;
 
 const CHANGES: usize = 48;
 
-// The words of a step that is to be done, and where the step writes.
-#[derive(Drop)]
+// The words of a step that is to be done: their line, where they end, and where the step writes.
+#[derive(Clone, Copy)]
 pub struct Words {
-    pub line: Line,
+    pub line: [u8; 80],
+    pub end: usize,
     pub to: Target,
 }
 
 pub fn no_words() -> Words {
     Words {
-        line: Line::new(),
+        line: blank(),
+        end: 0,
         to: Target::Stack,
     }
 }
 
-// The instruction that a state is about to do.
+// A line's text, and spaces behind it.
+fn padded(line: &Line) -> [u8; 80] {
+    let mut bytes = blank();
+    base_line::put_word(&mut bytes, 0, line.as_bytes());
+    bytes
+}
+
+// The instruction that a state is about to do, with room before it for the number of its step.
 pub fn next_words(s: State, ram: &[u8], rom: &[u8]) -> Words {
     let mut line = Line::new();
+    line.push_spaces(WORDS);
     let to = put_there(&mut line, &s.file, ram, rom);
-    Words { line, to }
+    Words {
+        line: padded(&line),
+        end: line.len(),
+        to,
+    }
 }
 
 // A line: its words, and behind them what a step or a call changed. Where that is nothing no spaces stand at the end.
 fn write_line(
     out: &mut impl Write,
-    mut line: Line,
+    words: [u8; 80],
+    end: usize,
     s: State,
     t: State,
     bus: Traffic,
@@ -199,11 +226,11 @@ fn write_line(
     put_effects(&mut effects, s, t, bus.cycles, log);
     let mut drops = Line::new();
     put_drops(&mut drops, bus, &t.file);
-    if changes.len() > 0 || effects.len() > 0 || drops.len() > 0 {
-        line.push_spaces(CHANGES.saturating_sub(line.len()));
-    }
+    let is_changed = changes.len() > 0 || effects.len() > 0 || drops.len() > 0;
+    let pad = if is_changed { end.max(CHANGES) } else { end };
     drops.push(b'\n');
-    write(out, &line) & (write(out, &changes) & (write(out, &effects) & write(out, &drops)))
+    write(out, words, pad)
+        & (write_text(out, &changes) & (write_text(out, &effects) & write_text(out, &drops)))
 }
 
 // The line of a step, whose words were put before it was done. A number that is too long for its column covers what it must of the words.
@@ -216,11 +243,9 @@ pub fn write_step(
     bus: Traffic,
     log: &[u8],
 ) -> bool {
-    let mut line = column_of(step);
-    let text = words.line.as_bytes();
-    let covered = line.len().saturating_sub(WORDS).min(text.len());
-    line.push_bytes(&text[covered..]);
-    write_line(out, line, s, t, bus, log)
+    let mut line = words.line;
+    put_decimal(&mut line, begin(step), step);
+    write_line(out, line, words.end, s, t, bus, log)
 }
 
 // The line of an interrupt call.
@@ -236,11 +261,11 @@ pub fn write_call(
     let mut line = Line::new();
     line.push_spaces(WORDS);
     line.push_str("interrupt ");
-    put_decimal(&mut line, vector);
+    push_decimal(&mut line, vector);
     if refused {
         line.push_str(" refused");
     }
-    write_line(out, line, s, t, bus, log)
+    write_line(out, padded(&line), line.len(), s, t, bus, log)
 }
 
 // ---- the end of a session
@@ -280,5 +305,5 @@ pub fn write_stand(out: &mut impl Write, s: State, ram: &[u8], rom: &[u8]) -> bo
     next.push_str("at ");
     put_there(&mut next, &file, ram, rom);
     next.push(b'\n');
-    write(out, &flags) & write(out, &next)
+    write_text(out, &flags) & write_text(out, &next)
 }

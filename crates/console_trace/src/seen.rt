@@ -9,15 +9,15 @@ const PLACES: usize = 65536;
 
 // An address, one above what it is so that 0 is a free place, and its count.
 #[derive(Clone, Copy)]
-struct Count {
-    key: u32,
-    count: u64,
+pub struct Count {
+    pub key: u32,
+    pub count: u64,
 }
 
 // A table of addresses and their counts. Where it is full, further addresses are left out.
 #[derive(Drop)]
 pub struct Counts {
-    places: [Count; PLACES],
+    pub places: [Count; PLACES],
 }
 
 impl Counts {
@@ -72,7 +72,7 @@ fn write_line(out: &mut impl Write, a: u32, n: u64) -> bool {
     let mut line = Line::new();
     line.push_hex(a as u64, 5);
     line.push(b' ');
-    crate::put_decimal(&mut line, n);
+    crate::push_decimal(&mut line, n);
     line.push(b'\n');
-    crate::write(out, &line)
+    crate::write_text(out, &line)
 }

@@ -10,7 +10,7 @@ ghost use Rattle.console_turns.specs.Stand.{log_emptied, is_emptied, emptied_by,
 
 use console_schedule::Call;
 use mach_registers::{PC, PS};
-use sheet::{Progress, Refusal, State};
+use sheet::{Bus, Progress, Refusal, State};
 use step_answer::{Answer, Ran};
 
 // How a session is played: its limit of steps, whether its runs are single steps, the address that ends it, and whether the log is kept.
@@ -141,17 +141,11 @@ fn is_there(plan: Plan, done: bool, t: State) -> bool
     done && plan.until == Some(at)
 }
 
-// The stand after an interrupt call.
+// The stand after an interrupt call, by whether it was accepted and what it left.
 #[tactic(auto, unfolding(crate::specs::Stand::answered_by))]
-pub fn answered(s: Session, plan: Plan, a: Result<Answer, Refusal>) -> Session
-    ensures { result ≡ answered_by s plan (is_ok a) (answer_in s.state a).state (answer_in s.state a).bus }
+pub fn answered_with(s: Session, plan: Plan, done: bool, state: State, bus: Bus) -> Session
+    ensures { result ≡ answered_by s plan done state bus }
 {
-    let done = a.is_ok();
-    // a call that is refused leaves the machine as it was
-    let Answer { state, bus } = a.unwrap_or(Answer {
-        state: s.state,
-        bus: mach_tally::none(),
-    });
     let cycles = u64::from(bus.cycles);
     let dropped = u64::from(bus.dropped);
     Session {
@@ -164,6 +158,18 @@ pub fn answered(s: Session, plan: Plan, a: Result<Answer, Refusal>) -> Session
         over: is_there(plan, done, state),
         ..s
     }
+}
+
+// The same by the call's answer; a call that is refused leaves the machine as it was.
+pub fn answered(s: Session, plan: Plan, a: Result<Answer, Refusal>) -> Session
+    ensures { result ≡ answered_by s plan (is_ok a) (answer_in s.state a).state (answer_in s.state a).bus }
+{
+    let done = a.is_ok();
+    let Answer { state, bus } = a.unwrap_or(Answer {
+        state: s.state,
+        bus: mach_tally::none(),
+    });
+    answered_with(s, plan, done, state, bus)
 }
 
 // Whether a session goes on after a run; a halted machine waits for the next call, if there is one.

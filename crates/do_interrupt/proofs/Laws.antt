@@ -1,11 +1,19 @@
 -- What each instruction comes to, from what its parts come to.
-use Prim.Native.Nat.{ℕ}
+use Prim.Native.Nat.{ℕ, suc, ◌-◌, ◌≤◌, ◌<◌}
 use mathlib.Core.Path.{◌≡◌, refl, sym, ◌∙◌}
 use mathlib.Core.Bool.{Bool, true, false}
 use mathlib.Core.List.{List}
+use native.Mathlib.Omega.{arith}
+use borrow.Author.Tests.{ltb-true, ltb-false, lt-ltb, le-ltb}
+use lib.Dec.{ltb}
+use lib.IntN.{negsuc}
 use lib.ListN.{get_or}
+use lib.Signed.{lt_z}
+use mir.Syntax.{w16}
+use mir.Val.{Fits}
 use Rattle.sheet.specs.declared.Bus.{Bus}
 use Rattle.sheet.specs.declared.Address.{Address}
+use Rattle.sheet.specs.Width.{add16, signed_of}
 use Rattle.sheet.specs.Psw.{OV, flag_of}
 use Rattle.sheet.specs.Registers.{PSW, file_of, read_reg}
 use Rattle.sheet.specs.Handler.{nothing, ◌⊕◌}
@@ -15,6 +23,41 @@ use Rattle.sheet.specs.Interrupts.{brk, trap_if, brkv, outside, chkind}
 use Rattle.sheet.specs.Contract.{OnMemory}
 use Rattle.sheet.proofs.Lifted.{file_pure, file_flag, memory_seq, memory_free, memory_last, memory_true, memory_false, on_memory}
 use Rattle.mach_registers.proofs.Laws.{file_reg}
+use Rattle.calc_signed.proofs.ReadBack.{read_pos, read_negsuc}
+
+-- ---- signed numbers in their order
+
+read_neg : (x : ℕ) → 32768 ≤ x → x < 65536 → signed_of 32768 x ≡ negsuc (65535 - x)
+read_neg x l h =
+    let e : 65536 - suc (65535 - x) ≡ x = omega arith in
+    rw e at (read_negsuc 32768 (65535 - x) (omega arith))
+
+agree : (x y c d : ℕ) (t : Bool) → ltb c d ≡ t → (c < d → x < y) → (d ≤ c → y ≤ x) → ltb x y ≡ ltb c d
+agree x y c d true e p q = lt-ltb x y (p (ltb-true c d e)) ∙ sym e
+agree x y c d false e p q = le-ltb x y (q (ltb-false c d e)) ∙ sym e
+
+-- by the signs of the two
+less_by : (s t : Bool) (a b : ℕ) → ltb a 32768 ≡ s → ltb b 32768 ≡ t → a < 65536 → b < 65536 → ltb (add16 a 32768) (add16 b 32768) ≡ lt_z (signed_of 32768 a) (signed_of 32768 b)
+less_by true true a b e q h k =
+    let l = ltb-true a 32768 e in
+    let m = ltb-true b 32768 q in
+    rw (read_pos 32768 a l, read_pos 32768 b m) (agree (add16 a 32768) (add16 b 32768) a b (ltb a b) refl (λ z. omega arith) (λ z. omega arith))
+less_by true false a b e q h k =
+    let l = ltb-true a 32768 e in
+    let m = ltb-false b 32768 q in
+    rw (read_pos 32768 a l, read_neg b m k) (le-ltb (add16 a 32768) (add16 b 32768) (omega arith))
+less_by false true a b e q h k =
+    let l = ltb-false a 32768 e in
+    let m = ltb-true b 32768 q in
+    rw (read_neg a l h, read_pos 32768 b m) (lt-ltb (add16 a 32768) (add16 b 32768) (omega arith))
+less_by false false a b e q h k =
+    let l = ltb-false a 32768 e in
+    let m = ltb-false b 32768 q in
+    rw (read_neg a l h, read_neg b m k)
+    (agree (add16 a 32768) (add16 b 32768) (65535 - b) (65535 - a) (ltb (65535 - b) (65535 - a)) refl (λ z. omega arith) (λ z. omega arith))
+
+pub less_is : (a b x y : ℕ) → Fits w16 a → Fits w16 b → x ≡ add16 a 32768 → y ≡ add16 b 32768 → ltb x y ≡ lt_z (signed_of 32768 a) (signed_of 32768 b)
+less_is a b x y p q e z = rw (e, z) (less_by (ltb a 32768) (ltb b 32768) a b refl refl p.fits q.fits)
 
 -- ---- instructions
 

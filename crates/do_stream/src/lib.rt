@@ -12,6 +12,7 @@ use mach_ports::Ported;
 use mach_registers::{CW, DW, IX, IY};
 use sheet::{Primitive, Progress, Refusal, Repeat};
 
+#[inline(always)]
 fn inm(
     file: &mut [u16; 14],
     ram: &mut [u8],
@@ -33,6 +34,7 @@ fn inm(
     })
 }
 
+#[inline(always)]
 fn outm(
     file: &mut [u16; 14],
     ram: &[u8],
@@ -74,6 +76,7 @@ impl From<Streaming> for Primitive {
     }
 }
 
+#[inline(always)]
 fn primitive(
     file: &mut [u16; 14],
     ram: &mut [u8],
@@ -93,6 +96,7 @@ fn primitive(
     }
 }
 
+#[inline(always)]
 fn element(
     file: &mut [u16; 14],
     ram: &mut [u8],
@@ -116,6 +120,7 @@ fn element(
 }
 
 // One element of an instruction whose first prefix is at the offset `start`.
+#[inline(always)]
 pub fn stream(
     file: &mut [u16; 14],
     ram: &mut [u8],

@@ -42,10 +42,12 @@ pub fn advance(
     if marks.halted {
         return Err(Refusal::Halted);
     }
-    let read = next(file, ram, rom)?;
-    one::proceed(
-        file, ram, rom, tape, log, marks, progress, read.instr, read.size,
-    )
+    match next(file, ram, rom) {
+        Ok(read) => one::proceed(
+            file, ram, rom, tape, log, marks, progress, read.instr, read.size,
+        ),
+        Err(refusal) => Err(refusal),
+    }
 }
 
 // One step of a machine that has passed the checks 1 and 2.

@@ -10,6 +10,7 @@ use sheet::{Instr, Marks, Progress, Refusal};
 use step_answer::Advanced;
 
 // What follows an instruction that was not refused.
+#[inline(always)]
 fn settle(file: &mut [u16; 14], ram: &mut [u8], rom: &[u8], traced: bool, p: Performed) -> Advanced
     requires { Within p.bus 1020 }
     ensures { SettlesOn traced p file ram rom result }
@@ -23,6 +24,7 @@ fn settle(file: &mut [u16; 14], ram: &mut [u8], rom: &[u8], traced: bool, p: Per
 }
 
 // An instruction of so many bytes, with PC moved past it, and back where it is refused.
+#[inline(always)]
 fn launch(
     file: &mut [u16; 14],
     ram: &mut [u8],
@@ -46,6 +48,7 @@ fn launch(
 }
 
 // An instruction of so many bytes; a refusal leaves everything as it was.
+#[inline(always)]
 pub fn proceed(
     file: &mut [u16; 14],
     ram: &mut [u8],
@@ -62,6 +65,8 @@ pub fn proceed(
     let marked = mach_marks::begun(marks, i);
     let traced = step_end::is_traced(file[PSW], marked);
     let begun = step_end::begin(progress);
-    let p = launch(file, ram, rom, tape, log, marked, begun, i, size)?;
-    Ok(settle(file, ram, rom, traced, p))
+    match launch(file, ram, rom, tape, log, marked, begun, i, size) {
+        Ok(p) => Ok(settle(file, ram, rom, traced, p)),
+        Err(refusal) => Err(refusal),
+    }
 }

@@ -66,13 +66,13 @@ pub fn check_line(base: u32, n: usize, g: u16, s: &[u8]) -> Result<(), Refusal>
     Ok(())
 }
 
-fn segment_after(g: u16, s: &[u8]) -> u16
+fn segment_after(g: usize, s: &[u8]) -> usize
     ensures { result ≡ segment_after g s.now }
 {
     if kind_of(s) == 2 {
         let high = byte_at(s, 4);
         let low = byte_at(s, 5);
-        return 256 * high as u16 + low as u16;
+        return 256 * high as usize + low as usize;
     }
     g
 }
@@ -82,10 +82,10 @@ fn segment_after(g: u16, s: &[u8]) -> u16
 pub struct Passed {
     pub kind: u8,
     pub span: usize,
-    pub segment: u16,
+    pub segment: usize,
 }
 
-pub fn pass(g: u16, s: &[u8]) -> Passed
+pub fn pass(g: usize, s: &[u8]) -> Passed
     ensures { Passes g s.now result.kind result.span result.segment }
 {
     Passed {

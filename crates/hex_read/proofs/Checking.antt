@@ -14,6 +14,10 @@ use Rattle.hex_form.specs.Reading.{fault, verdict, verdict_from, verdict_of, Pas
 use Rattle.hex_form.proofs.Walk.{span_some, span_there, good_formed, no_line, faulty_line, end_line, line_and_rest}
 use Rattle.hex_fault.proofs.Laws.{segment_small}
 
+-- the segment behind a line is a 16-bit number again
+pub passes_small : {g : ℕ} {s : List ℕ} {k n m : ℕ} → Passes g s k n m → g ≤ 65535 → m ≤ 65535
+passes_small {g} {s} p h = rw p.segments (segment_small g s h)
+
 -- the loop's invariant: what is left of the text decides
 pub record Checking (base n : ℕ) (text : List ℕ) (at segment line : ℕ) : Type 0 where
   pub place : at ≤ length text

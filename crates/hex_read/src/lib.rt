@@ -28,7 +28,7 @@ fn check(text: &[u8], base: u32, n: usize) -> Result<(), Faulty>
         if let Err(refusal) = check_line(base, n, segment, &text[at..]) {
             return Err(Faulty { refusal, line });
         }
-        let p = pass(segment, &text[at..]);
+        let p = pass(segment as usize, &text[at..]);
         at += p.span;
         line += 1;
         if p.kind == 1 {
@@ -40,7 +40,7 @@ fn check(text: &[u8], base: u32, n: usize) -> Result<(), Faulty>
                 line,
             });
         }
-        segment = p.segment;
+        segment = p.segment as u16;
     }
     Err(Faulty {
         refusal: Refusal::MalformedLine,
@@ -81,13 +81,13 @@ fn store_lines(image: &mut [u8], base: u32, text: &[u8])
     let mut at = 0;
     let mut segment = 0u16;
     while at < text.len() {
-        let p = pass(segment, &text[at..]);
+        let p = pass(segment as usize, &text[at..]);
         if p.kind == 1 {
             return;
         }
         store_line(image, base, segment, &text[at..]);
         at += p.span;
-        segment = p.segment;
+        segment = p.segment as u16;
     }
 }
 
@@ -95,7 +95,11 @@ fn store_lines(image: &mut [u8], base: u32, text: &[u8])
 pub fn read(text: &[u8], image: &mut [u8], base: u32) -> Result<(), Faulty>
     ensures { Reads text.now base image.old (reading_number result) (reading_line result) image.new }
 {
-    check(text, base, image.len())?;
-    store_lines(image, base, text);
-    Ok(())
+    match check(text, base, image.len()) {
+        Ok(()) => {
+            store_lines(image, base, text);
+            Ok(())
+        }
+        Err(faulty) => Err(faulty),
+    }
 }

@@ -1,17 +1,17 @@
 -- What each return of the code comes to, over plain values.
-use Prim.Native.Nat.{ℕ, ◌<◌}
-use mathlib.Core.Path.{◌≡◌}
+use Prim.Native.Nat.{ℕ, ◌<◌, ◌≤◌}
+use mathlib.Core.Path.{◌≡◌, refl}
 use mathlib.Core.Bool.{Bool, true, false, not, ◌&&◌}
 use mathlib.Core.List.{List}
 use lib.Dec.{eqb, ltb}
 use lib.ListN.{get_or, set}
-use borrow.Author.Tests.{eq-eqb, lt-ltb, ne_eqb}
+use borrow.Author.Tests.{eq-eqb, lt-ltb, le-ltb, ne_eqb}
 use Rattle.sheet.specs.declared.Bus.{Bus}
 use Rattle.sheet.specs.declared.Primitive.{Primitive}
 use Rattle.sheet.specs.declared.Repeat.{Repeat}
 use Rattle.sheet.specs.Width.{bytes_of, add16, sub16}
 use Rattle.sheet.specs.Psw.{Flag, DIR, flag_of}
-use Rattle.sheet.specs.Registers.{CW, IX, IY, DS1, PC, PSW, file_of, segment}
+use Rattle.sheet.specs.Registers.{CW, IX, IY, DS1, PC, PSW, file_of, written, segment}
 use Rattle.sheet.specs.Act.{pure, ◌>>=◌, ◌≔◌, flag}
 use Rattle.sheet.specs.Branch.{count_down}
 use Rattle.sheet.specs.Block.{stepped_of, step_index, source_element, target_element, set_target, goes_on_after, after_element}
@@ -32,9 +32,18 @@ module _ (w down : Bool) (x n y : ℕ) where
   unfolding stepped_of
   stepped_up d e q = rw (d, ← e) q
 
-pub step_is : (n : ℕ) (f : List ℕ) (w down : Bool) (x : ℕ) → n < 13 → down ≡ flag_of (get_or f PSW 0) DIR → x ≡ stepped_of w down (get_or f n 0) → OnFile Unit (step_index w n) f tt (set f n x)
+pub step_is : (n : ℕ) (f : List ℕ) (w down : Bool) (x : ℕ) → down ≡ flag_of (get_or f PSW 0) DIR → x ≡ stepped_of w down (file_of f n) → OnFile Unit (step_index w n) f tt (written f n x)
+unfolding step_index stepped_of
+step_is n f w down x e q = file_seq _ (file_flag DIR e) (file_seq _ file_registers (rw (← q) (file_set n x)))
+
+-- a word that is no register
+pub step_beyond : (n : ℕ) (f : List ℕ) (w : Bool) → 13 ≤ n → OnFile Unit (step_index w n) f tt f
+step_beyond n f w l = rw (le-ltb n 13 l) at (step_is n f w (flag_of (get_or f PSW 0) DIR) (stepped_of w (flag_of (get_or f PSW 0) DIR) (file_of f n)) refl refl)
+
+-- a register
+pub step_below : (n : ℕ) (f : List ℕ) (w down : Bool) (x : ℕ) → n < 13 → down ≡ flag_of (get_or f PSW 0) DIR → x ≡ stepped_of w down (get_or f n 0) → OnFile Unit (step_index w n) f tt (set f n x)
 unfolding step_index
-step_is n f w down x l e q = file_seq _ (file_flag DIR e) (file_seq _ file_registers (go (lt-ltb n 13 l)))
+step_below n f w down x l e q = file_seq _ (file_flag DIR e) (file_seq _ file_registers (go (lt-ltb n 13 l)))
   where
     go : ltb n 13 ≡ true → OnFile Unit (n ≔ stepped_of w down (file_of f n)) f tt (set f n x)
     go t = rw (t, ← q) (rw t at (file_set n x {f = f}))

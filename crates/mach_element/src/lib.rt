@@ -28,11 +28,12 @@ fn stepped(word: bool, down: bool, x: u16) -> u16
 
 // IX or IY, by its place in the file.
 pub fn step_index(word: bool, file: &mut [u16; 14], index: usize)
-    requires { index < 13 }
     ensures { OnFile Unit (tree.step_index word index) file.old tt file.new }
 {
-    let down = flag::<DIR>(file[PSW]);
-    file[index] = stepped(word, down, file[index]);
+    if index < PSW {
+        let down = flag::<DIR>(file[PSW]);
+        file[index] = stepped(word, down, file[index]);
+    }
 }
 
 // ---- the elements due

@@ -43,6 +43,9 @@ pub base_at_lem : (n k : ℕ) → n % 8 ≡ k → (get_or forms k (form BW None 
 unfolding form_at
 base_at_lem n k e = rw e
 
+pub op_below : (r : ℕ) → op_of r < 8
+op_below r = omega arith
+
 from_four : (k : ℕ) → (k ≡ 0 → ⊥) → (k ≡ 1 → ⊥) → (k ≡ 2 → ⊥) → (k ≡ 3 → ⊥) → 4 ≤ k
 from_four k a b c d = omega arith
 

@@ -26,7 +26,7 @@ fn port_of(file: &[u16; 14], r: Reading) -> u16
     file[DW]
 }
 
-fn input(
+pub fn input(
     file: &mut [u16; 14],
     ram: &[u8],
     rom: &[u8],
@@ -47,7 +47,7 @@ fn input(
     })
 }
 
-fn output(
+pub fn output(
     file: &[u16; 14],
     ram: &[u8],
     rom: &[u8],

@@ -12,7 +12,7 @@ use lib.Dec.{leb}
 use borrow.Author.Tests.{leb-true}
 use Rattle.sheet.specs.declared.Instr.{Instr}
 use Rattle.base_text.specs.Text.{text, hex}
-use Rattle.base_line.specs.Adds.{Adds}
+use Rattle.base_line.specs.Adds.{Adds, Puts}
 use Rattle.base_line.proofs.Laws.{nothing, then}
 use Rattle.rom_mnemonic.specs.Mnemonics.{instr_text}
 use Rattle.sheet.specs.Reading.{Read, known, unknown}
@@ -26,7 +26,7 @@ use Rattle.code_answer.specs.Answer.{Answer, known_as, Decodes}
 use Rattle.code_answer.proofs.DecodesLaws.{known_reads, unknown_refuses}
 use Rattle.rom_form.proofs.Lines.{line_short}
 use Rattle.rom_form.specs.Listing.{bytes_text, line, data_text, top, rest, read_at, whole, size_of, words_of, size_at, line_at}
-use Rattle.rom_list.specs.Makes.{head_text, instr_line, data_line, MakesByte, Makes}
+use Rattle.rom_list.specs.Makes.{head_text, instr_line, data_line, MakesByte, Makes, MakesIn}
 
 bytes_more : (x : List ℕ) (b : ℕ) → bytes_text (x ++ (b ∷ [])) ≡ bytes_text x ++ hex 2 b
 unfolding bytes_text
@@ -116,3 +116,7 @@ whole_fits n left e = let (x, y) = (and-eq-true_iff (leb n left) (leb n 9)).0 e 
 
 pub part_short : (image : List ℕ) (k n : ℕ) → n ≤ 9 → length (take (k + n - k) (drop k image)) ≤ 9
 part_short image k n h = let e : k + n - k ≡ n = omega arith in rw (e, length-take n (drop k image)) (omega (arith, min-le_left n (length (drop k image))))
+
+-- the line, put at the start of 80 bytes
+pub put_made : (image : List ℕ) (a : ℕ) {line s s' : List ℕ} {size r : ℕ} → Makes image a line size → Puts line s 0 r s' → MakesIn image a s r size s'
+put_made image a m h = record { puts = rw (← m.here) h; counts = m.counts }

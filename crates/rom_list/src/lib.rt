@@ -12,7 +12,7 @@ ghost use Rattle.rom_form.specs.Listing.{listing};
 ghost use Rattle.rom_list.specs.Lists.{Lists};
 
 use base_text::put_bytes;
-use line::make_line;
+use line::line_at;
 use sheet::Refusal;
 
 // An image ends where the addresses do.
@@ -26,7 +26,7 @@ fn measure(image: &[u8]) -> usize
     let mut a = TOP - image.len() as u32;
     let mut sum = 0;
     while a < TOP {
-        let made = make_line(image, a);
+        let made = line_at(image, a);
         sum += made.line.len();
         a += made.size as u32;
     }
@@ -40,7 +40,7 @@ fn put_lines(out: &mut [u8], image: &[u8]) -> usize
     let mut a = TOP - image.len() as u32;
     let mut at = 0;
     while a < TOP {
-        let made = make_line(image, a);
+        let made = line_at(image, a);
         at += put_bytes(&mut out[at..], made.line.as_bytes());
         a += made.size as u32;
     }

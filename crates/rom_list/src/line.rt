@@ -2,9 +2,9 @@
 ghost use Rattle.std.specs.Prelude.{◌≡◌, ◌+◌, ◌≤◌, ◌<◌, length};
 ghost use Rattle.base_line.specs.Adds.{AddsTo};
 ghost use Rattle.rom_form.specs.Listing.{bytes_text, top, whole};
-ghost use Rattle.rom_list.specs.Makes.{head_text, instr_line, data_line, MakesByte, Makes};
+ghost use Rattle.rom_list.specs.Makes.{head_text, instr_line, data_line, MakesByte, Makes, MakesIn};
 
-use base_line::Line;
+use base_line::{Line, put_word};
 use code_answer::Decoded;
 use sheet::Instr;
 
@@ -32,7 +32,7 @@ fn put_instr_line(line: &mut Line, a: u32, bytes: &[u8], next: u32, i: Instr)
     ensures { AddsTo (instr_line a bytes.now next i) line }
 {
     put_head(line, a, bytes);
-    rom_words::put_instr(line, next, i);
+    rom_words::put_words(line, next, i);
     line.push(b'\n');
 }
 
@@ -48,19 +48,19 @@ fn put_data_line(line: &mut Line, a: u32, bytes: &[u8], b: u8)
 
 // A line, and how many bytes of the image it names.
 #[derive(Drop)]
-pub struct Made {
+pub struct LineAt {
     pub line: Line,
     pub size: usize,
 }
 
 // The byte at a place alone.
-fn make_data(image: &[u8], a: u32, k: usize) -> Made
+fn make_data(image: &[u8], a: u32, k: usize) -> LineAt
     requires { k < length image.now }
     ensures { MakesByte image.now a k result.line result.size }
 {
     let mut line = Line::new();
     put_data_line(&mut line, a, &image[k..k + 1], image[k]);
-    Made { line, size: 1 }
+    LineAt { line, size: 1 }
 }
 
 // Whether an instruction of n bytes lies in what is left of the image.
@@ -71,7 +71,7 @@ fn lies(n: usize, left: usize) -> bool
 }
 
 // The line at an address of the image.
-pub fn make_line(image: &[u8], a: u32) -> Made
+pub fn line_at(image: &[u8], a: u32) -> LineAt
     requires { (top ≤ a + length image.now) × ((a < top) × (length image.now ≤ 32768)) }
     ensures { Makes image.now a result.line result.size }
 {
@@ -83,10 +83,29 @@ pub fn make_line(image: &[u8], a: u32) -> Made
             if lies(n, left) {
                 let mut line = Line::new();
                 put_instr_line(&mut line, a, &image[k..k + n], a + n as u32, instr);
-                return Made { line, size: n };
+                return LineAt { line, size: n };
             }
             make_data(image, a, k)
         }
         Err(_) => make_data(image, a, k),
+    }
+}
+
+// How many bytes of text a line has, and how many of the image it names.
+#[derive(Clone, Copy)]
+pub struct Made {
+    pub len: usize,
+    pub size: usize,
+}
+
+// The same line at the start of 80 bytes that the caller has.
+pub fn make_line(line: &mut [u8; 80], image: &[u8], a: u32) -> Made
+    requires { (top ≤ a + length image.now) × ((a < top) × (length image.now ≤ 32768)) }
+    ensures { MakesIn image.now a line.old result.len result.size line.new }
+{
+    let made = line_at(image, a);
+    Made {
+        len: put_word(line, 0, made.line.as_bytes()),
+        size: made.size,
     }
 }

@@ -8,7 +8,7 @@ ghost use Rattle.rom_list.specs.Agrees.{Begins, Agrees};
 ghost use Rattle.rom_list.specs.Rebuilds.{Rebuilds};
 
 use super::TOP;
-use super::line::make_line;
+use super::line::line_at;
 use base_text::put_bytes;
 use sheet::Refusal;
 
@@ -90,7 +90,7 @@ fn agrees(lines: &[u8], image: &[u8]) -> bool
     let mut a = TOP - image.len() as u32;
     let mut at = 0;
     while a < TOP {
-        let made = make_line(image, a);
+        let made = line_at(image, a);
         if !begins(&lines[at..], made.line.as_bytes()) {
             return false;
         }

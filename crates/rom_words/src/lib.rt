@@ -2,11 +2,11 @@
 #![tactic(auto)]
 
 ghost use Rattle.std.specs.Prelude.{◌≡◌, ◌++◌, true, false};
-ghost use Rattle.base_line.specs.Adds.{AddsTo};
+ghost use Rattle.base_line.specs.Adds.{AddsTo, PutsTo};
 ghost use Rattle.rom_mnemonic.specs.declared.Operand.TheVariants.{Value};
 ghost use Rattle.rom_mnemonic.specs.Mnemonics as words;
 
-use base_line::Line;
+use base_line::{Line, put_word};
 use rom_compute_words::put_compute;
 use rom_mnemonic::{
     Operand, Size, acc, in_dw, of_place, of_port, put_one, put_place, put_three, put_two, read,
@@ -146,7 +146,7 @@ fn control_name(i: Control) -> &'static str
 }
 
 // With the address of the next instruction.
-pub fn put_instr(line: &mut Line, next: u32, i: Instr)
+pub fn put_words(line: &mut Line, next: u32, i: Instr)
     ensures { AddsTo (words.instr_text next i) line }
 {
     match i {
@@ -165,4 +165,13 @@ pub fn put_instr(line: &mut Line, next: u32, i: Instr)
         Instr::Modes(i) => put_mode(line, i),
         Instr::Cards(_) => line.push_str("8080"),
     }
+}
+
+// The same into 80 bytes that the caller has, behind what ends at a place: where the words end.
+pub fn put_instr(line: &mut [u8; 80], at: usize, next: u32, i: Instr) -> usize
+    ensures { PutsTo (words.instr_text next i) line at result }
+{
+    let mut words = Line::new();
+    put_words(&mut words, next, i);
+    put_word(line, at, words.as_bytes())
 }

@@ -1,12 +1,10 @@
 use Rattle.sheet.specs.FirstByte.{instruction}
-use Rattle.code_answer.proofs.DecodesLaws.{left_by}
-use mathlib.Core.Path.{refl}
 use Rattle.code_decode.proofs.decode.Goals as goal
 
-pub returns-in_err-o : goal.returns-in_err-o
+pub returns-in-Ok : goal.returns-in-Ok
 unfolding instruction
-returns-in_err-o c = left_by c.from_residual.ensures.1 refl c.in_err-o.ensures.is.1
+returns-in-Ok c = c.in-Ok.ensures.is.decided _ c.first.ensures
 
-pub returns : goal.returns
+pub returns-in-Err : goal.returns-in-Err
 unfolding instruction
-returns c = c.in_ok-o.ensures.is.decided _ c.first.ensures
+returns-in-Err c = c.in-Err.ensures.is.1

@@ -4,7 +4,7 @@ use Rattle.sheet.proofs.RefusalLaws.{refusal_some}
 use Rattle.hex_read.proofs.Checking.{fits, long}
 use borrow.Author.Rules.{rules}
 use native.Mathlib.Omega.{arith}
-use Rattle.hex_read.proofs.Checking.{begun, refused, fits, long, whole, text_behind, passed, end_missing}
+use Rattle.hex_read.proofs.Checking.{passes_small, begun, refused, fits, long, whole, text_behind, passed, end_missing}
 use Rattle.hex_read.proofs.check.Goals as goal
 
 pub loop-at-init : goal.loop-at-init
@@ -51,3 +51,6 @@ loop-at-preserved c = let f : number_in c.check_line.result ≡ 0 = rw c.in_defa
 
 pub returns : goal.returns
 returns c = search (end_missing, rules)
+
+pub overflow_cast-segment-in-loop-at : goal.overflow_cast-segment-in-loop-at
+overflow_cast-segment-in-loop-at c = omega (arith, passes_small c.pass-p.ensures c.loop-at.invariant.small)

@@ -1,5 +1,6 @@
 use borrow.Author.Rules.{rules}
 use native.Mathlib.Omega.{arith}
+use Rattle.hex_read.proofs.Checking.{passes_small}
 use Rattle.hex_read.proofs.Storing.{begun, fits, long, end_met, line_stored, text_ended}
 use Rattle.hex_read.proofs.store_lines.Goals as goal
 
@@ -38,3 +39,6 @@ loop-at-preserved c = search (line_stored, rules)
 
 pub returns : goal.returns
 returns c = search (text_ended, rules)
+
+pub overflow_cast-segment-in-loop-at : goal.overflow_cast-segment-in-loop-at
+overflow_cast-segment-in-loop-at c = omega (arith, passes_small c.pass-p.ensures c.loop-at.invariant.small)
