@@ -151,11 +151,19 @@ module _ (o : Act Bool) (f g ram ram' rom tape log : List ℕ) (h : Marks) (q : 
   pub at_told : (p : Act Bool) (t : Bool) (n : Bus) (k : ℕ) → o ≡ p → k ≤ 1020 → OnMemory Bool p f ram rom t g ram' n k → Performs o f ram rom tape log h q 0 t h g ram' log q n
   at_told p t n k e m j = rw e (worked_is p f g ram ram' rom tape log h q t n k m j)
 
+  pub at_through : (p : Act Unit) (number : ℕ) (log' : List ℕ) (q' : Progress) (n : Bus) (k : ℕ) → o ≡ untrapped p → k ≤ 1020 → OnPorts p f ram rom tape log q number g ram' log' q' n k
+      → Performs o f ram rom tape log h q number false h g ram' log' q' n
+  at_through p number log' q' n k e m j = rw e (ported_is p f g ram ram' rom tape log h q log' q' number n k m j)
+
   pub at_control : (t : Control) (h' : Marks) (n : Bus) → o ≡ untrapped (control t) → do-control.Controls t f h g h' → Free n → Performs o f ram rom tape log h q 0 false h' g ram log q n
   at_control t h' n e k u = rw e (control_is t f g ram rom tape log h q h' n k u)
 
   pub at_marked : (p : Act Unit) (h' : Marks) (n : Bus) (k : ℕ) → o ≡ untrapped p → k ≤ 1020 → OnMarks Unit p f ram rom h tt g ram' h' n k → Performs o f ram rom tape log h q 0 false h' g ram' log q n
   at_marked p h' n k e m j = rw e (marked_is p f g ram ram' rom tape log h h' q n k m j)
+
+  pub at_carded : (p : Act Unit) (number : ℕ) (log' : List ℕ) (h' : Marks) (q' : Progress) (n : Bus) (k : ℕ) → o ≡ untrapped p → k ≤ 1020 → OnAll p f ram rom tape log h q number g ram' log' h' q' n k
+      → Performs o f ram rom tape log h q number false h' g ram' log' q' n
+  at_carded p number log' h' q' n k e m j = rw e (carded_is p f g ram ram' rom tape log log' h h' q q' number n k m j)
 
   -- what a function of its own came to
   pub at_same : (p : Act Bool) (number : ℕ) (t : Bool) (h' : Marks) (log' : List ℕ) (q' : Progress) (n : Bus) → o ≡ p → Performs p f ram rom tape log h q number t h' g ram' log' q' n
